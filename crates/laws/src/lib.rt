@@ -1,0 +1,1 @@
+// The laws are in specs/ and proofs/: this crate has no code.

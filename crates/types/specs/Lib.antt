@@ -1,0 +1,5 @@
+pub mod Time
+pub mod Ids
+pub mod MemoryLimit
+pub mod Refusals
+pub mod Values
