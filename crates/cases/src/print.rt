@@ -28,3 +28,13 @@ pub fn signed(n: i64) {
 pub fn signed32(n: i32) {
     signed(n as i64);
 }
+
+// In hexadecimal, two digits each.
+pub fn bytes(s: &[u8]) {
+    let mut i = 0;
+    while i < s.len() {
+        io::write_all(STDOUT_FILENO, b" ");
+        io::print_hex(STDOUT_FILENO, s[i] as u64, 2);
+        i += 1;
+    }
+}

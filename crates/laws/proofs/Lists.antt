@@ -3,7 +3,7 @@ use mathlib.Core.Path.{_≡_, refl, ap, sym, _∙_}
 use mathlib.Core.List.{List, [], _∷_, _++_, map, append-nil}
 use mathlib.Core.Bool.{Bool, true, false}
 use mathlib.Core.Option.{Option, some, none}
-use Prim.Native.Nat.{ℕ, suc, _+_, _≤_, _<_}
+use Prim.Native.Nat.{ℕ, zero, suc, _+_, _≤_, _<_}
 use native.Mathlib.Numerals.{add-one}
 use native.Mathlib.Omega.{arith}
 use lib.ListN.{length, take, drop, getD, set, drop-of-length-le}
@@ -13,7 +13,7 @@ use Rattle.laws.specs.Lists.{without, firstAt}
 
 module _ {A : Type 0} where
   -- the list up to i and x, and then the rest from k on: what a store at i leaves
-  stored : (l : List A) (i k : ℕ) (x : A) (f : List A → List A) → i < length l → i < k
+  pub stored : (l : List A) (i k : ℕ) (x : A) (f : List A → List A) → i < length l → i < k
       → take (i + 1) (set l i x) ++ f (drop k (set l i x)) ≡ take i l ++ x ∷ f (drop k l)
   stored l i k x f h b =
       ap (λ (j : ℕ). take j (set l i x) ++ f (drop k (set l i x))) (add-one i)
@@ -60,3 +60,30 @@ module _ {A : Type 0} where
 
   pub first-none : (p : A → Bool) (l : List A) (i : ℕ) → length l ≤ i → firstAt p i (drop i l) ≡ none
   first-none p l i h = ap (firstAt p i) (drop-of-length-le l h)
+
+  -- what was found lies in the list
+  pub first-below : (p : A → Bool) (l : List A) (i k : ℕ) → firstAt p i l ≡ some k → k < i + length l
+  first-below p [] i k e = absurd (none-some e)
+    where
+      none-some : none ≡ some k → ⊥
+      none-some q = let z : _≡_ {A = ℕ} 0 1 = cc in omega arith
+  first-below p (x ∷ l) i k e = go (p x) e (first-below p l (i + 1) k)
+    where
+      go : (b : Bool) → pick b (some i) (firstAt p (i + 1) l) ≡ some k → (firstAt p (i + 1) l ≡ some k → k < i + 1 + length l) → k < i + length (x ∷ l)
+      go true q later = let same : i ≡ k = cc in omega arith
+      go false q later = omega (arith, later q)
+
+module _ {A B : Type 0} (f : A → B) where
+  pub map-take : (n : ℕ) (l : List A) → map f (take n l) ≡ take n (map f l)
+  map-take zero l = refl
+  map-take (suc n) [] = refl
+  map-take (suc n) (x ∷ l) = ap (λ (r : List B). f x ∷ r) (map-take n l)
+
+  pub map-drop : (n : ℕ) (l : List A) → map f (drop n l) ≡ drop n (map f l)
+  map-drop zero l = refl
+  map-drop (suc n) [] = refl
+  map-drop (suc n) (x ∷ l) = map-drop n l
+
+  pub map-append : (l m : List A) → map f (l ++ m) ≡ map f l ++ map f m
+  map-append [] m = refl
+  map-append (x ∷ l) m = ap (λ (r : List B). f x ∷ r) (map-append l m)

@@ -1,6 +1,6 @@
 -- The list of a ring, over its elements and its capacity: its length and its elements, and what stores and moves of the head do to it. Assumes nothing.
 use mathlib.Core.Path.{_≡_, refl, ap, sym, _∙_}
-use mathlib.Core.List.{List, [], _∷_, _++_}
+use mathlib.Core.List.{List, [], _∷_, _++_, map}
 use Prim.Native.Nat.{ℕ, zero, suc, _+_, _-_, _%_, _≤_, _<_, min}
 use native.Mathlib.Nat.{mod-lt, mod-mod, add-zero}
 use native.Mathlib.Omega.{arith}
@@ -8,6 +8,7 @@ use native.Mathlib.Decide.{decLt}
 use lib.ListN.{length, take, drop, getD, set, length-append, length-take, length-drop, length-set, List·getD-append, drop-of-length-le}
 use lib.Seq.{ext-getD, getD-take, getD-drop, getD-append-add, getD-set-same, getD-set-other, getD-at, take-take}
 use Rattle.laws.specs.Ring.{ring, slot}
+use Rattle.laws.proofs.Lists.{map-take, map-drop, map-append}
 use Rattle.laws.proofs.Slots.{wrap-low, wrap-high, slot-below, slot-slot, slot-turn, getD-slot-set}
 
 module _ {A : Type 0} (cap : ℕ) (pos : 0 < cap) where
@@ -139,3 +140,15 @@ module _ {A : Type 0} (cap : ℕ) (pos : 0 < cap) where
       ∙ ap (λ (j : ℕ). x ∷ ring cap b j (min (n + 1) cap - 1)) t
       ∙ ap (λ (j : ℕ). x ∷ ring cap b (h % cap) j) m
       ∙ ap (λ (r : List A). x ∷ r) (ring-mod b blen h n ∙ ring-beyond a len h n (cap - 1) x (omega arith) (omega arith))
+
+-- a ring of length 0
+pub ring-none : {A : Type 0} (cap : ℕ) (a : List A) (h : ℕ) → ring cap a h 0 ≡ []
+unfolding ring
+ring-none cap a h = let e : min 0 cap ≡ 0 = omega arith in ap (λ (k : ℕ). take k (drop (h % cap) (a ++ a))) e
+
+-- each element changed
+pub ring-map : {A B : Type 0} (f : A → B) (cap : ℕ) (a : List A) (h n : ℕ) → map f (ring cap a h n) ≡ ring cap (map f a) h n
+unfolding ring
+ring-map {B = B} f cap a h n =
+    map-take f (min n cap) (drop (h % cap) (a ++ a))
+    ∙ ap (take (min n cap)) (map-drop f (h % cap) (a ++ a) ∙ ap (λ (r : List B). drop (h % cap) r) (map-append f a a))

@@ -3,3 +3,4 @@ pub mod Ids
 pub mod MemoryLimit
 pub mod Refusals
 pub mod Values
+pub mod Empty

@@ -1,0 +1,5 @@
+pub mod State
+pub mod Settings
+pub mod Ids
+pub mod Pending
+pub mod Settle

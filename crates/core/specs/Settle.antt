@@ -1,0 +1,47 @@
+-- What the plans of settling answer.
+use Prim.Native.Nat.{ℕ, _+_, _-_, _%_, min}
+use lib.Dec.{eqb}
+use lib.IntN.{ℤ}
+use Rattle.laws.specs.Choice.{pick}
+use Rattle.queue.specs.Ids.{published}
+use Rattle.types.specs.declared.answer.Outcome.{Outcome}
+use Rattle.types.specs.declared.answer.Outcome.the-variants.{Done, Refused}
+use Rattle.types.specs.declared.stats.SequenceIds.{SequenceIds}
+use Rattle.core.specs.declared.state.Core.{Core}
+use Rattle.core.specs.declared.state.Rings.{Rings}
+use Rattle.core.specs.State.{coreIds}
+
+abbrev pub coreRings : Rings → Core → Core
+coreRings r c = record { handle = c .handle; settings = c .settings; ids = c .ids; counters = c .counters; batch = c .batch; rings = r }
+
+abbrev pub headAfter : ℕ → ℕ → ℕ
+headAfter head place = pick (eqb place 0) ((head % 256 + 1) % 256) head
+
+abbrev pub pendingRing : ℕ → ℕ → Rings → Rings
+pendingRing head len r =
+    record {
+      «outbound_head» = r .«outbound_head»;
+      «outbound_len» = r .«outbound_len»;
+      waiting = r .waiting;
+      «held_head» = r .«held_head»;
+      «held_len» = r .«held_len»;
+      «pending_head» = head;
+      «pending_len» = len;
+    }
+
+abbrev pub coreWithout : ℕ → Core → Core
+coreWithout place c =
+    let r = c .rings in
+    coreRings (pendingRing (headAfter (r .«pending_head») place) (min (r .«pending_len») 256 - 1) r) c
+
+abbrev pub idsPublished : ℤ → SequenceIds → SequenceIds
+idsPublished z i =
+    record {
+      «next_sequence_id» = i .«next_sequence_id»;
+      «last_sequence_id_pushed» = i .«last_sequence_id_pushed»;
+      «last_sequence_id_published» = z;
+    }
+
+abbrev pub corePublished : Outcome → ℕ → Core → Core
+corePublished Done id c = coreIds (published id (c .ids)) c
+corePublished (Refused e) id c = c

@@ -1,0 +1,76 @@
+// Sequence ids and deadlines (document 01, 'ids and clocks').
+ghost use mathlib.Core.Path.{_≡_};
+ghost use Rattle.core.specs.Ids.{withInitialId, maybeAfter, hasElapsed, unlessNone, sendDeadlineOf, batchDeadlineOf};
+use crate::state::Core;
+use types::optional::MaybeU64;
+use types::signed::saturating_sub_one;
+use types::signed::signed_of;
+use types::time::deadline_with_clamp;
+
+// A time plus a delay, none without a delay.
+pub fn after(delay: MaybeU64, time: u64) -> MaybeU64
+    ensures { λ r. ⌜ r ≡ maybeAfter delay time ⌝ }
+{
+    match delay {
+        MaybeU64::Absent => MaybeU64::Absent,
+        MaybeU64::Present(d) => MaybeU64::Present(deadline_with_clamp(time, d)),
+    }
+}
+
+// Whether a deadline that is there has passed.
+pub fn elapsed(now: u64, deadline: MaybeU64) -> bool
+    ensures { λ r. ⌜ r ≡ hasElapsed now deadline ⌝ }
+{
+    match deadline {
+        MaybeU64::Absent => false,
+        MaybeU64::Present(d) => d <= now,
+    }
+}
+
+// A deadline, none where nothing waits for it.
+fn unless_none(waiting: usize, deadline: MaybeU64) -> MaybeU64
+    ensures { λ r. ⌜ r ≡ unlessNone waiting deadline ⌝ }
+{
+    if waiting == 0 {
+        MaybeU64::Absent
+    } else {
+        deadline
+    }
+}
+
+impl Core {
+    // Of the front entry, which was sent at `enqueued_at`.
+    pub fn next_send_deadline(self, enqueued_at: u64) -> MaybeU64
+        ensures { λ r. ⌜ r ≡ sendDeadlineOf self «enqueued_at» ⌝ }
+    {
+        let settings = self.settings;
+        let delays = settings.delays;
+        let timeout = delays.send_timeout;
+        let deadline = after(timeout, enqueued_at);
+        unless_none(self.rings.pending_len, deadline)
+    }
+
+    pub fn next_batch_deadline(self) -> MaybeU64
+        ensures { λ r. ⌜ r ≡ batchDeadlineOf self ⌝ }
+    {
+        let settings = self.settings;
+        let delays = settings.delays;
+        let delay = delays.batching_max_publish_delay;
+        let deadline = after(delay, self.batch.first_added_at);
+        unless_none(self.batch.len, deadline)
+    }
+
+    pub fn set_initial_sequence_id(mut self, next: u64) -> Core
+        ensures { λ r. ⌜ r ≡ withInitialId next self ⌝ }
+    {
+        let mut ids = self.ids;
+        ids.next_sequence_id = next;
+        if 0 < next {
+            let before = saturating_sub_one(signed_of(next));
+            ids.last_sequence_id_pushed = before;
+            ids.last_sequence_id_published = before;
+        }
+        self.ids = ids;
+        self
+    }
+}

@@ -1,0 +1,8 @@
+// The scalars of a producer, and a plan for each operation: what it answers, the scalars after it, and which records go where.
+// A plan sees the few records that it needs and never an array.
+pub mod blank;
+pub mod ids;
+pub mod pending;
+pub mod settings;
+pub mod settle;
+pub mod state;

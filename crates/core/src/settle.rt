@@ -1,0 +1,54 @@
+// The scalars once an entry is settled.
+ghost use mathlib.Core.Path.{_≡_};
+ghost use Prim.Native.Nat.{_-_};
+ghost use Rattle.core.specs.Settle.{coreWithout, corePublished, headAfter};
+use crate::pending::at_most;
+use crate::state::Core;
+use types::answer::Outcome;
+use types::signed::signed_of;
+
+fn head_after(head: usize, place: usize) -> usize
+    ensures { λ r. ⌜ r ≡ headAfter head place ⌝ }
+{
+    if place == 0 {
+        (head % 256 + 1) % 256
+    } else {
+        head
+    }
+}
+
+fn less_one(n: usize) -> usize
+    ensures { λ r. ⌜ r ≡ n - 1 ⌝ }
+{
+    if 0 < n { n - 1 } else { 0 }
+}
+
+impl Core {
+    // The entry at a place leaves. The ring then begins one on, if it was the first; else the entries behind it have moved up.
+    pub fn without_entry(mut self, place: usize) -> Core
+        ensures { λ r. ⌜ r ≡ coreWithout place self ⌝ }
+    {
+        let n = at_most(self.rings.pending_len, 256);
+        let head = head_after(self.rings.pending_head, place);
+        let len = less_one(n);
+        self.rings.pending_head = head;
+        self.rings.pending_len = len;
+        self
+    }
+
+    // A receipt's id becomes the published number, unless the receipt was refused.
+    pub fn published(mut self, answer: Outcome, id: u64) -> Core
+        ensures { λ r. ⌜ r ≡ corePublished answer id self ⌝ }
+    {
+        match answer {
+            Outcome::Done => {
+                let mut ids = self.ids;
+                let published = signed_of(id);
+                ids.last_sequence_id_published = published;
+                self.ids = ids;
+                self
+            }
+            Outcome::Refused(_) => self,
+        }
+    }
+}

@@ -1,0 +1,97 @@
+// The scalars of a producer.
+ghost use mathlib.Core.Path.{_≡_};
+ghost use Rattle.core.specs.State.{newCore};
+use types::batch::BatchContainer;
+use types::frame::ProducerName;
+use types::optional::MaybeU64;
+use types::settings::Delays;
+use types::settings::Limits;
+use types::settings::ProducerSettings;
+use types::settings::Switches;
+use types::stats::Counters;
+use types::stats::SequenceIds;
+use types::types::ProducerHandle;
+
+// Where the rings of the state begin and how long they are. Any numbers will do: a head is read as `head % N`, a length as
+// `min(len, N)`.
+pub struct Rings {
+    pub outbound_head: usize,
+    pub outbound_len: usize,
+    // The waiting frames, chunks counted singly.
+    pub waiting: usize,
+    pub held_head: usize,
+    pub held_len: usize,
+    pub pending_head: usize,
+    pub pending_len: usize,
+}
+
+impl Rings {
+    pub const OUTBOUND: usize = 1024;
+
+    pub const HELD: usize = 512;
+
+    pub const PENDING: usize = 256;
+}
+
+pub struct Core {
+    pub handle: ProducerHandle,
+    pub settings: ProducerSettings,
+    pub ids: SequenceIds,
+    pub counters: Counters,
+    pub batch: BatchContainer,
+    pub rings: Rings,
+}
+
+impl Core {
+    // Of a new producer.
+    pub fn new(handle: ProducerHandle) -> Core
+        ensures { λ r. ⌜ r ≡ newCore handle ⌝ }
+    {
+        let batch = BatchContainer::empty();
+        Core {
+            handle: handle,
+            settings: ProducerSettings {
+                name: ProducerName {
+                    bytes: [0; 64],
+                    len: 0,
+                },
+                limits: Limits {
+                    max_message_size: 5_242_880,
+                    max_batch_size_bytes: 131_072,
+                    max_messages_in_batch: 128,
+                },
+                switches: Switches {
+                    batching_enabled: false,
+                    chunking_enabled: false,
+                    broker_ready: false,
+                    closed: false,
+                },
+                delays: Delays {
+                    send_timeout: MaybeU64::Absent,
+                    batching_max_publish_delay: MaybeU64::Absent,
+                },
+            },
+            ids: SequenceIds {
+                next_sequence_id: 0,
+                last_sequence_id_pushed: -1,
+                last_sequence_id_published: -1,
+            },
+            counters: Counters {
+                total_msgs_sent: 0,
+                total_bytes_sent: 0,
+                total_send_failed: 0,
+                total_acks_received: 0,
+            },
+            batch: batch,
+            rings: Rings {
+                outbound_head: 0,
+                outbound_len: 0,
+                waiting: 0,
+                held_head: 0,
+                held_len: 0,
+                pending_head: 0,
+                pending_len: 0,
+            },
+        }
+    }
+}

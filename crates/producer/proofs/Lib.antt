@@ -1,0 +1,11 @@
+pub mod Scalars
+pub mod Fresh
+pub mod Blank
+pub mod Entries
+pub mod Full
+pub mod Gap
+pub mod Remove
+pub mod Locate
+pub mod Settling
+pub mod Receipts
+pub mod Queries

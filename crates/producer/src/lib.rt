@@ -1,0 +1,5 @@
+// The send queue of a producer. Each operation is planned on the scalars (crate core) and applied to the rings.
+pub mod query;
+pub mod settings;
+pub mod settle;
+pub mod state;

@@ -1,0 +1,55 @@
+// What can be asked of a producer.
+ghost use mathlib.Core.Path.{_≡_};
+ghost use Rattle.types.specs.Values.{numOf};
+ghost use Rattle.queue.specs.Ids.{nextSendDeadline, nextBatchDeadline, batchDeadlineElapsed};
+ghost use Rattle.queue.specs.Queries.{outboundLen, stats};
+ghost use Rattle.producer.specs.View.{view};
+use crate::state::ProducerState;
+use core::ids::elapsed;
+use core::pending::at_most;
+use types::optional::MaybeU64;
+use types::stats::ProducerStats;
+
+impl ProducerState {
+    pub fn next_send_deadline(self) -> MaybeU64
+        ensures { λ r. ⌜ numOf r ≡ nextSendDeadline (view self) ⌝ }
+    {
+        let at = self.core.rings.pending_head % 256;
+        let front = self.pending[at];
+        let c = self.core;
+        c.next_send_deadline(front.enqueued_at)
+    }
+
+    pub fn next_batch_deadline(self) -> MaybeU64
+        ensures { λ r. ⌜ numOf r ≡ nextBatchDeadline (view self) ⌝ }
+    {
+        let c = self.core;
+        c.next_batch_deadline()
+    }
+
+    pub fn batch_deadline_elapsed(self, now: u64) -> bool
+        ensures { λ r. ⌜ r ≡ batchDeadlineElapsed now (view self) ⌝ }
+    {
+        let c = self.core;
+        let deadline = c.next_batch_deadline();
+        elapsed(now, deadline)
+    }
+
+    // The waiting frames, chunks counted singly.
+    pub fn outbound_len(self) -> usize
+        ensures { λ r. ⌜ r ≡ outboundLen (view self) ⌝ }
+    {
+        self.core.rings.waiting
+    }
+
+    pub fn stats(self) -> ProducerStats
+        ensures { λ r. ⌜ r ≡ stats (view self) ⌝ }
+    {
+        let counters = self.core.counters;
+        let n = at_most(self.core.rings.pending_len, 256);
+        ProducerStats {
+            counters: counters,
+            pending_queue_size: n as u64,
+        }
+    }
+}

@@ -1,0 +1,11 @@
+pub mod Queue
+pub mod Settings
+pub mod Ids
+pub mod Batch
+pub mod Send
+pub mod Frame
+pub mod Take
+pub mod Settle
+pub mod Tables
+pub mod Queries
+pub mod Told
