@@ -8,4 +8,11 @@ pub mod Take
 pub mod Settle
 pub mod Tables
 pub mod Queries
+pub mod Message
+pub mod Run
+pub mod Read
+pub mod Order
+pub mod Reachable
+pub mod Chunks
+pub mod Restore
 pub mod Told
