@@ -1,17 +1,27 @@
--- A push onto a ring that may be full, made or not, over the elements and the capacity. Assumes nothing.
+-- Pushes onto lists and rings that may be full, over the elements and the capacity. Assumes nothing.
 use mathlib.Core.Path.{_≡_, refl}
-use mathlib.Core.List.{List}
+use mathlib.Core.List.{List, [], _∷_, _++_}
 use mathlib.Core.Bool.{Bool, true, false, _&&_}
-use Prim.Native.Nat.{ℕ, _+_, _<_, min}
+use Prim.Native.Nat.{ℕ, _+_, _≤_, _<_, min}
 use native.Mathlib.Omega.{arith}
 use native.Mathlib.Decide.{decLt}
-use lib.ListN.{length, set, length-set}
+use lib.ListN.{length, set, length-set, length-append}
 use lib.Dec.{ltb}
 use borrow.Author.Tests.{lt-ltb, le-ltb}
 use Rattle.laws.specs.Choice.{pick}
-use Rattle.laws.specs.Lists.{onto, ontoIf, setIf}
+use Rattle.laws.specs.Lists.{onto, ontoIf, frontAll, setIf}
 use Rattle.laws.specs.Ring.{ring, slot}
 use Rattle.laws.proofs.Rings.{length-ring, ring-push}
+
+-- where there is room
+pub onto-room : {A : Type 0} (most : ℕ) (l : List A) (x : A) → length l < most → onto most l x ≡ l ++ x ∷ []
+onto-room most l x h = rw (lt-ltb (length l) most h)
+
+pub front-room : {A : Type 0} (most : ℕ) (xs l : List A) → length xs + length l ≤ most → frontAll most xs l ≡ xs ++ l
+front-room most [] l h = refl
+front-room most (x ∷ xs) l h =
+    let e : frontAll most xs l ≡ xs ++ l = front-room most xs l (omega arith) in
+    rw (e, lt-ltb (length (xs ++ l)) most (rw length-append (omega arith)))
 
 pub length-setIf : {A : Type 0} (b : Bool) (l : List A) (i : ℕ) (x : A) → length (setIf b l i x) ≡ length l
 length-setIf true l i x = simp length-set

@@ -9,3 +9,4 @@ pub mod Locate
 pub mod Settling
 pub mod Receipts
 pub mod Queries
+pub mod Runs

@@ -1,3 +1,4 @@
 pub mod View
 pub mod Settle
 pub mod Answers
+pub mod Runs

@@ -17,7 +17,7 @@ use Rattle.queue.specs.Send.{chunkSize, totalChunks}
 use Rattle.queue.specs.Frame.{chunkPart}
 use Rattle.queue.specs.Take.{nextChunk}
 use Rattle.queue.specs.Chunks.{Numbered, payloads, Chunks}
-use Rattle.queue.proofs.Choice.{pick-ind}
+use Rattle.laws.proofs.Choice.{pick-ind}
 use Rattle.queue.proofs.Reading.{chunkRun, fromFirst, Cut}
 
 pub size-some : (limit : ℕ) → 1 ≤ limit → 1 ≤ chunkSize limit

@@ -24,7 +24,7 @@ use Rattle.queue.specs.Take.{takeFrom, nextOutboundFrame}
 use Rattle.queue.specs.Settle.{settle, settled, answerable, found, applyReceipt, applySendError, dueCount, drainTimedOutSends}
 use Rattle.queue.specs.Tables.{batchedOf, framedOf, allWellFormed, framesFor, unborne, drainPendingSends, snapshotPendingSends, replaySnapshots, replayPendingOutbound}
 use Rattle.queue.specs.Run.{Call, send, flush, take, receipt, sendError, timeouts, initialId, set, setName, close, query, drain, snapshot, replay, resend, AllRanged, step, after}
-use Rattle.queue.proofs.Choice.{pick-ind}
+use Rattle.laws.proofs.Choice.{pick-ind}
 use Rattle.queue.proofs.Moves.{Well}
 use Rattle.queue.proofs.Reached.{plan-cases, step-well, new-well}
 

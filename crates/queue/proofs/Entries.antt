@@ -17,7 +17,7 @@ use Rattle.queue.specs.Send.{totalChunks, withinBounds}
 use Rattle.queue.specs.Settle.{bears, unmark, without, settled, unmarkAll}
 use Rattle.queue.specs.Tables.{isBatched, framedOf, again, framesFor, wellFormedAs, allWellFormed, mark, borne, unborne}
 use Rattle.queue.specs.Reachable.{leftAll}
-use Rattle.queue.proofs.Choice.{pick-ind, and-left, and-right}
+use Rattle.laws.proofs.Choice.{pick-ind, and-left, and-right}
 use Rattle.queue.proofs.Sound.{EachWaits, heldBy}
 
 pub some-chunk : (len size : ℕ) → 1 ≤ totalChunks len size

@@ -23,7 +23,7 @@ use Rattle.queue.specs.Queue.{Queue, Outgoing, done, refuse, withOut}
 use Rattle.queue.specs.Send.{messageIn}
 use Rattle.queue.specs.Frame.{Frame, singleFrame, batchFrame, chunkFrame, chunkPart, singleIn, allIn, borneIn}
 use Rattle.queue.specs.Take.{withKind, nextChunk, taken, nextOutboundFrame}
-use Rattle.queue.proofs.Choice.{false-true}
+use Rattle.laws.proofs.Choice.{false-true}
 use Rattle.queue.proofs.Reading.{chunkRun, Cut}
 
 -- a single message; a batch frame with its messages; n + 1 chunks that wait

@@ -16,7 +16,7 @@ use Rattle.wire.specs.Batch.{WithinBounds, lenOf}
 use Rattle.queue.specs.Batch.{singleOf}
 use Rattle.queue.specs.Send.{Sending, withinBounds}
 use Rattle.queue.specs.Run.{Is64}
-use Rattle.queue.proofs.Choice.{and-left, and-right}
+use Rattle.laws.proofs.Choice.{and-left, and-right}
 
 part-within : (x : MaybePart) → upTo 1024 x ≡ true → lenOf x ≤ 1024
 part-within part.Absent h = omega arith

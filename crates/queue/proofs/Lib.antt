@@ -1,4 +1,3 @@
-pub mod Choice
 pub mod ItemBounds
 pub mod Sound
 pub mod Entries

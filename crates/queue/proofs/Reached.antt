@@ -28,7 +28,8 @@ use Rattle.queue.specs.Take.{takeFrom, nextOutboundFrame}
 use Rattle.queue.specs.Settle.{settled, settle, answerable, found, applyReceipt, applySendError, dueCount, unmarkAll, handOut, drainTimedOutSends}
 use Rattle.queue.specs.Tables.{drainPendingSends, batchedOf, framedOf, snapshotPendingSends, allWellFormed, framesFor, again, fronted, replaySnapshots, unborne, replayPendingOutbound}
 use Rattle.queue.specs.Run.{Call, send, flush, take, receipt, sendError, timeouts, initialId, set, setName, close, query, drain, snapshot, replay, resend, Ranged, AllRanged, step, after}
-use Rattle.queue.proofs.Choice.{pick-ind, false-true, front-room}
+use Rattle.laws.proofs.Choice.{pick-ind, false-true}
+use Rattle.laws.proofs.Pushes.{front-room}
 use Rattle.queue.proofs.ItemBounds.{Sendable, sendable}
 use Rattle.queue.proofs.Sound.{Sound, empty-sound, left-append, held-append, waits-append, waits-length, records-fit, take-sound}
 use Rattle.queue.proofs.Moves.{Well, flush-well, join-well, single-well, chunked-well, flush-if, join-waiting}

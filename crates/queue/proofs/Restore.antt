@@ -18,7 +18,8 @@ use Rattle.queue.specs.Settings.{changed}
 use Rattle.queue.specs.Tables.{isBatched, batchedOf, framedOf, failed, framesFor, again, mark, borne, unborne, snapshotPendingSends, replaySnapshots, replayPendingOutbound}
 use Rattle.queue.specs.Run.{after}
 use Rattle.queue.specs.Restore.{RestoreRule}
-use Rattle.queue.proofs.Choice.{pick-ind, differ, front-room}
+use Rattle.laws.proofs.Choice.{pick-ind, differ}
+use Rattle.laws.proofs.Pushes.{front-room}
 use Rattle.queue.proofs.Sound.{waits-length}
 use Rattle.queue.proofs.Entries.{EachFormed, formed-all, again-all}
 use Rattle.queue.proofs.Reached.{run-well, new-well}

@@ -17,7 +17,7 @@ use Rattle.queue.specs.Send.{one, joins, isTooLarge, go, flushesBefore, 
 use Rattle.queue.specs.Tables.{framedOf, framesFor, again, allWellFormed, unborne, replaySnapshots, replayPendingOutbound}
 use Rattle.queue.specs.Run.{Call, send, flush, take, receipt, sendError, timeouts, initialId, set, setName, close, query, drain, snapshot, replay, resend, after}
 use Rattle.queue.specs.Reachable.{records, Room, FindsRoom, ReachableRule}
-use Rattle.queue.proofs.Choice.{pick-ind, differ}
+use Rattle.laws.proofs.Choice.{pick-ind, differ}
 use Rattle.queue.proofs.Sound.{waits-length, records-fit}
 use Rattle.queue.proofs.Moves.{Well}
 use Rattle.queue.proofs.Entries.{EachFormed, all-well-formed, unborne-formed, again-all, some-chunk}

@@ -24,7 +24,7 @@ use Rattle.queue.specs.Message.{Message, messageOf}
 use Rattle.queue.specs.Run.{Call, send, flush, Ranged, Gives, frameOf, acceptedBy}
 use Rattle.queue.specs.Order.{Covered}
 use Rattle.queue.specs.Chunks.{Unchunked, Cuts, none-cut, one-cut}
-use Rattle.queue.proofs.Choice.{pick-ind, false-true, and-left, and-right, or-left, or-right}
+use Rattle.laws.proofs.Choice.{pick-ind, false-true, and-left, and-right, or-left, or-right}
 use Rattle.queue.proofs.ItemBounds.{Sendable, sendable}
 use Rattle.queue.proofs.Moves.{Well, flush-out, join-out, single-out, chunked-out, singleRecord, chunkedRecord, join-well, AfterFlush, flush-if, join-waiting}
 use Rattle.queue.proofs.Reached.{Passed, send-cases}

@@ -24,7 +24,7 @@ use Rattle.queue.specs.Queue.{Outgoing, emptyOutgoing}
 use Rattle.queue.specs.Batch.{singleOf, grown, push, withBatch, batchRecord}
 use Rattle.queue.specs.Take.{withKind, nextChunk, restOf, holds, taken}
 use Rattle.queue.specs.Reachable.{left, leftAll, openOf, payloadSum}
-use Rattle.queue.proofs.Choice.{pick-ind}
+use Rattle.laws.proofs.Choice.{pick-ind}
 
 abbrev pub EachWaits : List FrameRecord → Type 0
 EachWaits [] = Unit {0}

@@ -21,7 +21,7 @@ use Rattle.queue.specs.Tables.{drainPendingSends, batchedOf, framedOf, s
 use Rattle.queue.specs.Message.{Message}
 use Rattle.queue.specs.Run.{Call, send, flush, take, receipt, sendError, timeouts, initialId, set, setName, close, query, drain, snapshot, replay, resend, Ranged, Gives, step, frameOf, acceptedBy}
 use Rattle.queue.specs.Order.{Refused, Covered}
-use Rattle.queue.proofs.Choice.{pick-ind}
+use Rattle.laws.proofs.Choice.{pick-ind}
 use Rattle.queue.proofs.Moves.{Well}
 use Rattle.queue.proofs.Groups.{Group, framesAll, Next, next, none-left}
 use Rattle.queue.proofs.Sends.{Holds}

@@ -16,7 +16,7 @@ use Rattle.queue.specs.Run.{take, step, Waiting, none-waits, one-waits}
 use Rattle.queue.proofs.Moves.{Well}
 use Rattle.queue.proofs.Reached.{step-well}
 use Rattle.queue.proofs.Groups.{Group, Stands, Next, next, none-left, framesAll}
-use Rattle.queue.proofs.Choice.{differ}
+use Rattle.laws.proofs.Choice.{differ}
 
 -- into a buffer that is long enough
 taken-whole : (store : List ℕ) (q : Queue) (g : Group) (gs : List Group) (ms : List SingleMessage) (x : Next store q g gs ms)
