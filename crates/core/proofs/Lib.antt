@@ -1,2 +1,5 @@
 pub mod Keys
 pub mod Names
+pub mod Rounding
+pub mod Tests
+pub mod Within

@@ -3,3 +3,8 @@ pub mod Settings
 pub mod Ids
 pub mod Pending
 pub mod Settle
+pub mod Delta
+pub mod Batch
+pub mod Way
+pub mod Choose
+pub mod Send

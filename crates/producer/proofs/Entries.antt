@@ -4,6 +4,7 @@ use mathlib.Core.Bool.{Bool, true, false, not}
 use mathlib.Core.List.{List, [], _∷_, map}
 use lib.Dec.{eqb}
 use Rattle.laws.specs.Choice.{pick}
+use Rattle.laws.specs.Lists.{setIf}
 use mathlib.Core.Path.{_≡_, refl, ap}
 use native.Mathlib.Omega.{arith}
 use lib.ListN.{length, getD, set}
@@ -61,3 +62,8 @@ unmarked-entries id [] ms ps = refl
 unmarked-entries id (i ∷ is) [] ps = refl
 unmarked-entries id (i ∷ is) (m ∷ ms) [] = refl
 unmarked-entries id (i ∷ is) (m ∷ ms) (p ∷ ps) = λ j. unmarked-one id i m p j ∷ unmarked-entries id is ms ps j
+
+pub entries-setIf : (b : Bool) (is ms : List ℕ) (ps : List Publish) (k i m : ℕ) (p : Publish)
+    → entries (setIf b is k i) (setIf b ms k m) (setIf b ps k p) ≡ setIf b (entries is ms ps) k (entryOf i m p)
+entries-setIf true is ms ps k i m p = entries-set is ms ps k i m p
+entries-setIf false is ms ps k i m p = refl

@@ -10,3 +10,6 @@ pub mod Settling
 pub mod Receipts
 pub mod Queries
 pub mod Runs
+pub mod Flushes
+pub mod Sends
+pub mod Views

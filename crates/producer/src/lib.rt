@@ -1,5 +1,7 @@
 // The send queue of a producer. Each operation is planned on the scalars (crate core) and applied to the rings.
+pub mod apply;
 pub mod query;
+pub mod send;
 pub mod settings;
 pub mod settle;
 pub mod state;
