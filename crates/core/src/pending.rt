@@ -4,20 +4,14 @@ ghost use mathlib.Core.Path.{_≡_};
 ghost use mathlib.Core.Bool.{_&&_, _||_, not};
 ghost use lib.Dec.{eqb};
 ghost use lib.ListN.{length};
-ghost use Prim.Native.Nat.{min};
 ghost use Rattle.laws.specs.Ring.{ring};
 ghost use Rattle.core.specs.Pending.{keys, wanted, placeOf, firstIf, located, cleared, clearedAll};
+use crate::numbers::at_most;
 
 pub enum Found {
     // So many places from the front.
     At(usize),
     Nothing,
-}
-
-pub fn at_most(n: usize, cap: usize) -> usize
-    ensures { λ r. ⌜ r ≡ min n cap ⌝ }
-{
-    if n < cap { n } else { cap }
 }
 
 fn bears(entry: u64, mark: u8, id: u64, any: bool) -> bool

@@ -2,7 +2,7 @@
 ghost use mathlib.Core.Path.{_≡_};
 ghost use Prim.Native.Nat.{_-_};
 ghost use Rattle.core.specs.Settle.{coreWithout, corePublished, headAfter};
-use crate::pending::at_most;
+use crate::numbers::at_most;
 use crate::state::Core;
 use types::answer::Outcome;
 use types::signed::signed_of;

@@ -2,11 +2,11 @@
 ghost use mathlib.Core.Path.{_≡_};
 ghost use Rattle.types.specs.Values.{numOf};
 ghost use Rattle.queue.specs.Ids.{nextSendDeadline, nextBatchDeadline, batchDeadlineElapsed};
-ghost use Rattle.queue.specs.Queries.{outboundLen, stats};
+ghost use Rattle.queue.specs.Queries.{mayAdd, outboundLen, stats};
 ghost use Rattle.producer.specs.View.{view};
 use crate::state::ProducerState;
 use core::ids::elapsed;
-use core::pending::at_most;
+use core::numbers::at_most;
 use types::optional::MaybeU64;
 use types::stats::ProducerStats;
 
@@ -33,6 +33,14 @@ impl ProducerState {
         let c = self.core;
         let deadline = c.next_batch_deadline();
         elapsed(now, deadline)
+    }
+
+    // Whether a message of this payload size and count may join the open batch, if it is batchable.
+    pub fn can_add_to_batch(self, payload_size: usize, num_messages: i32) -> bool
+        ensures { λ r. ⌜ r ≡ mayAdd «payload_size» «num_messages» (view self) ⌝ }
+    {
+        let c = self.core;
+        c.can_add_to_batch(payload_size, num_messages)
     }
 
     // The waiting frames, chunks counted singly.

@@ -12,8 +12,8 @@ ghost use Rattle.producer.specs.Settle.{GapClosed, Settles, keyOf, unmar
 ghost use Rattle.producer.specs.Answers.{toldReceipt, toldError};
 ghost use Rattle.producer.specs.View.{view, entryOf};
 use crate::state::ProducerState;
+use core::numbers::at_most;
 use core::pending::Found;
-use core::pending::at_most;
 use core::pending::locate;
 use core::pending::unmark;
 use types::answer::Outcome;

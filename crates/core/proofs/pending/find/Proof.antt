@@ -14,10 +14,6 @@ use borrow.Author.Needs.{needs}
 use native.Mathlib.Omega.{arith}
 use Rattle.core.proofs.pending.find.Statement.{statement}
 use Rattle.core.proofs.pending.find.Tie as tie
-use Rattle.core.proofs.pending.find.Reads as reads
-use Rattle.core.proofs.pending.find.Lts as lts
-use Rattle.core.proofs.pending.at_most.Reads as at-most-reads
-use Rattle.core.proofs.pending.bears.Reads as bears-reads
 
 pos : 0 < 256
 pos = lit< tt
@@ -39,43 +35,33 @@ Inv-loop ids marks head len id any h n i₀ i = Missed 256 (wanted id any) (keys
 abbrev μ-loop : tie.MeasureT-loop
 μ-loop ids marks head len id any h n i₀ i = n - i
 
--- src/pending.rt:45:9
 at-most-requires : tie.Need-at-most-requires Inv-loop μ-loop
 at-most-requires c κs = search needs
 
--- src/pending.rt:47:9
 loop-holds : tie.Need-loop-holds Inv-loop μ-loop
 loop-holds c = record { low = omega arith; left = refl }
 
--- src/pending.rt:51:19
 add-at : tie.Need-add-at Inv-loop μ-loop
 add-at c = search needs
 
--- src/pending.rt:52:21
 mul-entry : tie.Need-mul-entry Inv-loop μ-loop
 mul-entry c = search needs
 
--- src/pending.rt:52:21
 element-copy-out-entry : tie.Need-element-copy-out-entry Inv-loop μ-loop
 element-copy-out-entry c = search needs
 
--- src/pending.rt:53:20
 element-copy-out-mark : tie.Need-element-copy-out-mark Inv-loop μ-loop
 element-copy-out-mark c = search needs
 
--- src/pending.rt:54:12
 bears-requires : tie.Need-bears-requires Inv-loop μ-loop
 bears-requires c κs = search needs
 
--- src/pending.rt:57:9
 add-i : tie.Need-add-i Inv-loop μ-loop
 add-i c = search needs
 
--- src/pending.rt:47:9
 loop-less : tie.Need-loop-less Inv-loop μ-loop
 loop-less c = search needs
 
--- src/pending.rt:47:9
 loop-again : tie.Need-loop-again Inv-loop μ-loop
 loop-again c =
     let a = c .before .before .before .before .before .before .before .args in
@@ -83,7 +69,6 @@ loop-again c =
     (len (a .ids .now) (a .marks .now) (omega arith) (omega arith)) _ (c .before .before .before .before .before .loop .inv) (0, true) (omega arith)
     (test (a .ids .now) (a .marks .now) (omega arith) (omega arith) (a .head) _ (a .id) (a .any) (sym (c .before .bears .ensures) ∙ c .if2 .left))
 
--- src/pending.rt:34:1
 returns : tie.Need-returns Inv-loop μ-loop
 returns c =
     let a = c .before .before .before .args in
@@ -92,7 +77,6 @@ returns c =
     (missed-all 256 pos (wanted (a .id) (a .any)) (keys (a .ids .now) (a .marks .now)) (a .head) (a .len)
     (len (a .ids .now) (a .marks .now) (omega arith) (omega arith)) _ (c .before .loop .inv) (omega arith)))
 
--- src/pending.rt:34:1
 returns-2 : tie.Need-returns-2 Inv-loop μ-loop
 returns-2 c =
     let a = c .before .before .before .before .before .before .before .args in

@@ -6,9 +6,6 @@ use borrow.Author.Needs.{needs}
 use native.Mathlib.Omega.{arith}
 use Rattle.core.proofs.pending.unmark.Statement.{statement}
 use Rattle.core.proofs.pending.unmark.Tie as tie
-use Rattle.core.proofs.pending.unmark.Reads as reads
-use Rattle.core.proofs.pending.unmark.Lts as lts
-use Rattle.core.proofs.pending.kept.Reads as kept-reads
 
 abbrev Inv-loop : tie.InvT-loop
 Inv-loop marks₀ id ids i₀ marks i = Clearing id ids marks₀ marks i
@@ -16,46 +13,36 @@ Inv-loop marks₀ id ids i₀ marks i = Clearing id ids marks₀ marks i
 abbrev μ-loop : tie.MeasureT-loop
 μ-loop marks₀ id ids i₀ marks i = 256 - i
 
--- src/pending.rt:73:5
 loop-holds : tie.Need-loop-holds Inv-loop μ-loop
 loop-holds c = clear-start (c .args .id) (c .args .t2) (c .args .marks .now) (omega arith)
 
--- src/pending.rt:74:21
 mul-entry : tie.Need-mul-entry Inv-loop μ-loop
 mul-entry c = search needs
 
--- src/pending.rt:74:21
 array-read-entry : tie.Need-array-read-entry Inv-loop μ-loop
 array-read-entry c = search needs
 
--- src/pending.rt:75:20
 element-copy-out-mark : tie.Need-element-copy-out-mark Inv-loop μ-loop
 element-copy-out-mark c = search needs
 
--- src/pending.rt:76:20
 kept-requires : tie.Need-kept-requires Inv-loop μ-loop
 kept-requires c κs = search needs
 
--- src/pending.rt:76:9
 element-write-marks : tie.Need-element-write-marks Inv-loop μ-loop
 element-write-marks c = search needs
 
--- src/pending.rt:77:9
 add-i : tie.Need-add-i Inv-loop μ-loop
 add-i c = search needs
 
--- src/pending.rt:73:5
 loop-less : tie.Need-loop-less Inv-loop μ-loop
 loop-less c = search needs
 
--- src/pending.rt:73:5
 loop-again : tie.Need-loop-again Inv-loop μ-loop
 loop-again c =
     let a = c .before .before .before .before .args in
     let l = c .before .before .before .loop in
     rw (c .kept .ensures) (clear-step (a .id) (a .t2) (a .marks .now) (l .marks) (l .i) (omega arith) (omega arith) (l .inv))
 
--- src/pending.rt:69:1
 returns : tie.Need-returns Inv-loop μ-loop
 returns c =
     let a = c .before .before .args in

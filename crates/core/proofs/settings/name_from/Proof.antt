@@ -8,8 +8,6 @@ use borrow.Author.Needs.{needs}
 use native.Mathlib.Omega.{arith}
 use Rattle.core.proofs.settings.name_from.Statement.{statement}
 use Rattle.core.proofs.settings.name_from.Tie as tie
-use Rattle.core.proofs.settings.name_from.Reads as reads
-use Rattle.core.proofs.settings.name_from.Lts as lts
 
 abbrev Inv-loop : tie.InvT-loop
 Inv-loop name bytes₀ i₀ bytes i = (i ≤ length name) × (bytes ≡ padded name i)
@@ -17,34 +15,27 @@ Inv-loop name bytes₀ i₀ bytes i = (i ≤ length name) × (bytes ≡ padded n
 abbrev μ-loop : tie.MeasureT-loop
 μ-loop name bytes₀ i₀ bytes i = length name - i
 
--- src/settings.rt:110:5
 loop-holds : tie.Need-loop-holds Inv-loop μ-loop
 loop-holds c = (omega arith, refl)
 
--- src/settings.rt:111:20
 shared-slice-read-bytes : tie.Need-shared-slice-read-bytes Inv-loop μ-loop
 shared-slice-read-bytes c = search needs
 
--- src/settings.rt:111:9
 array-write-bytes : tie.Need-array-write-bytes Inv-loop μ-loop
 array-write-bytes c = search needs
 
--- src/settings.rt:112:9
 add-i : tie.Need-add-i Inv-loop μ-loop
 add-i c = search needs
 
--- src/settings.rt:110:5
 loop-less : tie.Need-loop-less Inv-loop μ-loop
 loop-less c = search needs
 
--- src/settings.rt:110:5
 loop-again : tie.Need-loop-again Inv-loop μ-loop
 loop-again c =
     let k = c .before .before .loop in
     let name = c .before .before .before .args .name .now in
     (omega arith, ap (λ (l : List ℕ). set l (k .i) (getD name (k .i) 0)) (k .inv .1) ∙ padded-step name (k .i) (omega arith) (c .before .before .before .pre))
 
--- src/settings.rt:104:1
 returns : tie.Need-returns Inv-loop μ-loop
 returns c =
     let k = c .before .loop in

@@ -5,9 +5,6 @@ use borrow.Author.Needs.{needs}
 use native.Mathlib.Omega.{arith}
 use Rattle.producer.proofs.state.ProducerState.close_gap.Statement.{statement}
 use Rattle.producer.proofs.state.ProducerState.close_gap.Tie as tie
-use Rattle.producer.proofs.state.ProducerState.close_gap.Reads as reads
-use Rattle.producer.proofs.state.ProducerState.close_gap.Lts as lts
-use Rattle.core.proofs.pending.at_most.Reads as at-most-reads
 
 abbrev Inv-loop : tie.InvT-loop
 Inv-loop place self₀ head n i₀ self i = Moving self₀ place self i
@@ -15,86 +12,66 @@ Inv-loop place self₀ head n i₀ self i = Moving self₀ place self i
 abbrev μ-loop : tie.MeasureT-loop
 μ-loop place self₀ head n i₀ self i = n - i
 
--- src/settle.rt:72:13
 at-most-requires : tie.Need-at-most-requires Inv-loop μ-loop
 at-most-requires c κs = search needs
 
--- src/settle.rt:74:9
 loop-holds : tie.Need-loop-holds Inv-loop μ-loop
 loop-holds c = moving-start (c .before .args .t1) (c .before .args .place) (full (c .before .args .t1) (c .before .good .0)) (c .before .pre)
 
--- src/settle.rt:74:19
 sub-loop : tie.Need-sub-loop Inv-loop μ-loop
 sub-loop c = search needs
 
--- src/settle.rt:75:33
 add-from : tie.Need-add-from Inv-loop μ-loop
 add-from c = search needs
 
--- src/settle.rt:75:25
 add-from-2 : tie.Need-add-from-2 Inv-loop μ-loop
 add-from-2 c = search needs
 
--- src/settle.rt:76:23
 add-to : tie.Need-add-to Inv-loop μ-loop
 add-to c = search needs
 
--- src/settle.rt:77:27
 mul-publish : tie.Need-mul-publish Inv-loop μ-loop
 mul-publish c = search needs
 
--- src/settle.rt:77:27
 element-copy-out-publish : tie.Need-element-copy-out-publish Inv-loop μ-loop
 element-copy-out-publish c = search needs
 
--- src/settle.rt:78:22
 mul-id : tie.Need-mul-id Inv-loop μ-loop
 mul-id c = search needs
 
--- src/settle.rt:78:22
 element-copy-out-id : tie.Need-element-copy-out-id Inv-loop μ-loop
 element-copy-out-id c = search needs
 
--- src/settle.rt:79:24
 element-copy-out-mark : tie.Need-element-copy-out-mark Inv-loop μ-loop
 element-copy-out-mark c = search needs
 
--- src/settle.rt:80:13
 mul-publish-2 : tie.Need-mul-publish-2 Inv-loop μ-loop
 mul-publish-2 c = search needs
 
--- src/settle.rt:80:13
 element-set-from-publish : tie.Need-element-set-from-publish Inv-loop μ-loop
 element-set-from-publish c = search needs
 
--- src/settle.rt:81:13
 mul-self : tie.Need-mul-self Inv-loop μ-loop
 mul-self c = search needs
 
--- src/settle.rt:81:13
 element-write-self : tie.Need-element-write-self Inv-loop μ-loop
 element-write-self c = search needs
 
--- src/settle.rt:82:13
 element-write-self-2 : tie.Need-element-write-self-2 Inv-loop μ-loop
 element-write-self-2 c = search needs
 
--- src/settle.rt:83:13
 add-i : tie.Need-add-i Inv-loop μ-loop
 add-i c = search needs
 
--- src/settle.rt:74:9
 loop-less : tie.Need-loop-less Inv-loop μ-loop
 loop-less c = search needs
 
--- src/settle.rt:74:9
 loop-again : tie.Need-loop-again Inv-loop μ-loop
 loop-again c =
     let a = c .before .before .before .before .before .before .args in
     let k = c .before .before .before .before .loop in
     moving-step (a .t1) (a .place) (k .self) (k .i) _ (k .inv) (omega (arith, c .before .before .before .before .before .at-most .ensures))
 
--- src/settle.rt:67:5
 returns : tie.Need-returns Inv-loop μ-loop
 returns c =
     let a = c .before .before .before .args in
