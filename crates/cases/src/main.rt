@@ -1,6 +1,7 @@
 // The cases of document 01, executed: each line is a case's name and what the code answers. The file `stdout` has the
 // answers of the document. The cases that it marks with a star are proved besides, in specs/Rows.antt.
 mod print;
+mod sends;
 
 ghost use mathlib.Core.Path.{_≡_};
 ghost use Rattle.cases.specs.Messages.{messageOf};
@@ -124,6 +125,8 @@ fn main() {
     before_next(b"S2", 0x8000_0000_0000_0000);
     before_next(b"S3", u64::MAX);
     quote();
+    sends::joins_and_is_flushed();
+    sends::as_many_chunks_as_frames();
     published();
     refusals();
 }

@@ -14,7 +14,7 @@ can-add-to-batch-requires c κs = search needs
 
 returns : tie.Need-returns
 unfolding mayAdd view
-returns c = 
+returns c =
     let a = c .before .before .args in
     c .can-add-to-batch .ensures
     ∙ ap (canAddToBatch (a .self .core .settings) (a .self .core .batch) (a .payload-size)) (toZ-ofZ w32 (a .num-messages) (c .before .before .fits .num-messages))
