@@ -3,3 +3,4 @@ pub mod Names
 pub mod Rounding
 pub mod Tests
 pub mod Within
+pub mod Batches

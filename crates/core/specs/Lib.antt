@@ -3,6 +3,7 @@ pub mod Settings
 pub mod Ids
 pub mod Pending
 pub mod Settle
+pub mod Take
 pub mod Delta
 pub mod Batch
 pub mod Way

@@ -13,4 +13,5 @@ pub mod send;
 pub mod settings;
 pub mod settle;
 pub mod state;
+pub mod take;
 pub mod way;

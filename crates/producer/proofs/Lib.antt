@@ -13,3 +13,4 @@ pub mod Runs
 pub mod Flushes
 pub mod Sends
 pub mod Views
+pub mod Takes

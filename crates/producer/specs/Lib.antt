@@ -4,3 +4,4 @@ pub mod Answers
 pub mod Runs
 pub mod Apply
 pub mod Send
+pub mod Take

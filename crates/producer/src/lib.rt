@@ -5,3 +5,4 @@ pub mod send;
 pub mod settings;
 pub mod settle;
 pub mod state;
+pub mod take;

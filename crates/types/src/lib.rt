@@ -9,6 +9,7 @@ pub mod frame;
 pub mod memory_limit;
 pub mod message;
 pub mod optional;
+pub mod outbound;
 pub mod settings;
 pub mod signed;
 pub mod stats;
