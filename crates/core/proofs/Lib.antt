@@ -1,6 +1,1 @@
-pub mod Keys
-pub mod Names
-pub mod Rounding
-pub mod Tests
 pub mod Within
-pub mod Batches

@@ -1,6 +1,6 @@
 -- What the plans of a flush answer.
 use Prim.Native.Nat.{ℕ, _+_}
-use mathlib.Core.Bool.{Bool, false}
+use mathlib.Core.Bool.{Bool}
 use lib.Dec.{ltb}
 use Rattle.laws.specs.Choice.{pick}
 use Rattle.types.specs.Empty.{emptyBatch}
@@ -8,6 +8,7 @@ use Rattle.types.specs.declared.answer.CountOutcome.{CountOutcome}
 use Rattle.types.specs.declared.answer.CountOutcome.the-variants.{Count, Refused}
 use Rattle.types.specs.declared.error.ProducerError.the-variants.{OutboundFull}
 use Rattle.queue.specs.Batch.{batchRecord, isEmpty}
+use Rattle.rules.specs.Batch.{makesFrame}
 use Rattle.core.specs.declared.state.Core.{Core}
 use Rattle.core.specs.declared.delta.Pushed.{Pushed}
 use Rattle.core.specs.declared.delta.FlushDelta.{FlushDelta}
@@ -31,10 +32,6 @@ flushAnswer c =
     pick (isEmpty (c .batch)) (Count 0)
     (pick (c .settings .switches .closed) (Count 0)
     (pick (ltb 1024 (c .rings .waiting + 1)) (Refused OutboundFull) (Count 1)))
-
-abbrev pub makesFrame : CountOutcome → Bool
-makesFrame (Count n) = ltb 0 n
-makesFrame (Refused e) = false
 
 abbrev pub flushOf : CountOutcome → ℕ → Core → FlushDelta
 flushOf answer publishTime c =

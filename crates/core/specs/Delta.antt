@@ -1,11 +1,8 @@
 -- What one push does to the scalars, and what it stores. These mirror the code.
-use Prim.Native.Nat.{ℕ, _+_, min}
+use Prim.Native.Nat.{ℕ}
 use mathlib.Core.Bool.{false}
-use lib.Dec.{ltb}
 use lib.IntN.{pos}
-use Rattle.laws.specs.Choice.{pick}
 use Rattle.laws.specs.Numbers.{addSat}
-use Rattle.laws.specs.Ring.{slot}
 use Rattle.types.specs.Empty.{emptyName}
 use Rattle.types.specs.declared.batch.BatchContainer.{BatchContainer}
 use Rattle.types.specs.declared.entry.Publish.{Publish}
@@ -18,19 +15,16 @@ use Rattle.types.specs.declared.optional.MaybeBool.the-variants as mark
 use Rattle.types.specs.declared.optional.MaybeU64.the-variants as number
 use Rattle.queue.specs.Batch.{noPart, noMessage, noUuid, counted}
 use Rattle.queue.specs.Ids.{assigned}
+use Rattle.rules.specs.declared.rings.Rings.{Rings}
+use Rattle.rules.specs.declared.rings.Place.{Place}
+use Rattle.rules.specs.Rings.{placeOf}
 use Rattle.core.specs.declared.state.Core.{Core}
-use Rattle.core.specs.declared.state.Rings.{Rings}
-use Rattle.core.specs.declared.delta.Place.{Place}
 use Rattle.core.specs.declared.delta.FramePut.{FramePut}
 use Rattle.core.specs.declared.delta.EntryPut.{EntryPut}
 use Rattle.core.specs.declared.delta.HeldPut.{HeldPut}
 use Rattle.core.specs.declared.delta.Pushed.{Pushed}
 use Rattle.core.specs.declared.delta.Accepted.{Accepted}
 use Rattle.core.specs.declared.delta.Held.{Held}
-
--- the place behind the last of a ring, and the ring's length once something is there; a full ring stays
-abbrev pub placeOf : ℕ → ℕ → ℕ → Place
-placeOf cap head len = record { put = ltb len cap; at = slot cap head (min len cap); len = pick (ltb len cap) (len + 1) len }
 
 -- ── nothing is stored ──
 

@@ -1,27 +1,14 @@
 -- What the plans of ids and deadlines answer.
 use Prim.Native.Nat.{ℕ}
-use mathlib.Core.Bool.{Bool, false}
-use lib.Dec.{ltb, leb, eqb}
+use lib.Dec.{ltb}
 use lib.IntN.{ℤ}
 use Rattle.laws.specs.Choice.{pick}
 use Rattle.types.specs.Ids.{beforeNext}
-use Rattle.types.specs.Time.{deadlineWithClamp}
 use Rattle.types.specs.declared.optional.MaybeU64.{MaybeU64}
-use Rattle.types.specs.declared.optional.MaybeU64.the-variants.{Absent, Present}
 use Rattle.types.specs.declared.stats.SequenceIds.{SequenceIds}
+use Rattle.rules.specs.Deadline.{maybeAfter, unlessNone}
 use Rattle.core.specs.declared.state.Core.{Core}
 use Rattle.core.specs.State.{coreIds}
-
-abbrev pub maybeAfter : MaybeU64 → ℕ → MaybeU64
-maybeAfter Absent time = Absent
-maybeAfter (Present delay) time = Present (deadlineWithClamp time delay)
-
-abbrev pub hasElapsed : ℕ → MaybeU64 → Bool
-hasElapsed now Absent = false
-hasElapsed now (Present deadline) = leb deadline now
-
-abbrev pub unlessNone : ℕ → MaybeU64 → MaybeU64
-unlessNone waiting deadline = pick (eqb waiting 0) Absent deadline
 
 abbrev pub sendDeadlineOf : Core → ℕ → MaybeU64
 sendDeadlineOf c enqueuedAt = unlessNone (c .rings .«pending_len») (maybeAfter (c .settings .delays .«send_timeout») enqueuedAt)

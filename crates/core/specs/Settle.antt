@@ -1,21 +1,17 @@
 -- What the plans of settling answer.
-use Prim.Native.Nat.{ℕ, _+_, _-_, _%_, min}
-use lib.Dec.{eqb}
+use Prim.Native.Nat.{ℕ, _-_, min}
 use lib.IntN.{ℤ}
-use Rattle.laws.specs.Choice.{pick}
 use Rattle.queue.specs.Ids.{published}
 use Rattle.types.specs.declared.answer.Outcome.{Outcome}
 use Rattle.types.specs.declared.answer.Outcome.the-variants.{Done, Refused}
 use Rattle.types.specs.declared.stats.SequenceIds.{SequenceIds}
+use Rattle.rules.specs.declared.rings.Rings.{Rings}
+use Rattle.rules.specs.Rings.{headAfter}
 use Rattle.core.specs.declared.state.Core.{Core}
-use Rattle.core.specs.declared.state.Rings.{Rings}
 use Rattle.core.specs.State.{coreIds}
 
 abbrev pub coreRings : Rings → Core → Core
 coreRings r c = record { handle = c .handle; settings = c .settings; ids = c .ids; counters = c .counters; batch = c .batch; rings = r }
-
-abbrev pub headAfter : ℕ → ℕ → ℕ
-headAfter head place = pick (eqb place 0) ((head % 256 + 1) % 256) head
 
 abbrev pub pendingRing : ℕ → ℕ → Rings → Rings
 pendingRing head len r =

@@ -4,8 +4,8 @@ use Rattle.queue.specs.Queue.{newSettings, newIds, newCounters}
 use Rattle.types.specs.declared.types.ProducerHandle.{ProducerHandle}
 use Rattle.types.specs.declared.settings.ProducerSettings.{ProducerSettings}
 use Rattle.types.specs.declared.stats.SequenceIds.{SequenceIds}
+use Rattle.rules.specs.declared.rings.Rings.{Rings}
 use Rattle.core.specs.declared.state.Core.{Core}
-use Rattle.core.specs.declared.state.Rings.{Rings}
 
 abbrev pub newRings : Rings
 newRings =

@@ -1,14 +1,13 @@
 // What a plan hands to `apply`: the scalars after the call, and which records go to which places.
 ghost use mathlib.Core.Path.{_≡_};
-ghost use Prim.Native.Nat.{_<_, _≤_};
-ghost use Rattle.core.specs.Delta.{placeOf, noFrame, noEntry, noHeld, accepted, pushed, held, countedCore};
-use crate::blank::no_message;
-use crate::numbers::at_most;
-use crate::numbers::saturating_add;
-use crate::numbers::saturating_add_u64;
-use crate::numbers::wrapping_next;
+ghost use Rattle.core.specs.Delta.{noFrame, noEntry, noHeld, accepted, pushed, held, countedCore};
 use crate::state::Core;
-use crate::state::Rings;
+use rules::blank::no_message;
+use rules::numbers::saturating_add;
+use rules::numbers::saturating_add_u64;
+use rules::numbers::wrapping_next;
+use rules::rings::Rings;
+use rules::rings::place_of;
 use types::answer::CountOutcome;
 use types::answer::SendDecision;
 use types::entry::Publish;
@@ -79,35 +78,6 @@ pub struct Accepted {
 pub struct Held {
     pub core: Core,
     pub held: HeldPut,
-}
-
-// Where a record goes behind the last of a ring, and the ring's length then.
-pub struct Place {
-    pub put: bool,
-    pub at: usize,
-    pub len: usize,
-}
-
-// A full ring stays as it is.
-pub fn place_of(cap: usize, head: usize, len: usize) -> Place
-    requires { ⌜ (0 < cap) × (cap ≤ 1024) ⌝ }
-    ensures { λ r. ⌜ r ≡ placeOf cap head len ⌝ }
-{
-    let n = at_most(len, cap);
-    let at = (head % cap + n) % cap;
-    if len < cap {
-        Place {
-            put: true,
-            at: at,
-            len: len + 1,
-        }
-    } else {
-        Place {
-            put: false,
-            at: at,
-            len: len,
-        }
-    }
 }
 
 // Nothing is stored.

@@ -1,14 +1,9 @@
 // The scalars of a producer, and a plan for each operation: what it answers, the scalars after it, and which records go where.
 // A plan sees the few records that it needs and never an array.
 pub mod batch;
-pub mod blank;
-pub mod bounds;
 pub mod choose;
-pub mod chunks;
 pub mod delta;
 pub mod ids;
-pub mod numbers;
-pub mod pending;
 pub mod send;
 pub mod settings;
 pub mod settle;

@@ -1,10 +1,7 @@
 // Sends (document 01, 'sends').
 ghost use mathlib.Core.Path.{_≡_};
 ghost use Rattle.core.specs.Send.{publishOf, frameOf, emitted, singled, joined, chunked, emittedAfter, refusedBy, refusedLarge, joinedAfter, singledAfter, chunkedAfter, followed, planned};
-use crate::batch::single_of;
-use crate::batch::with_message;
 use crate::choose::SendPlan;
-use crate::chunks::chunked_bytes;
 use crate::delta::EntryPut;
 use crate::delta::FramePut;
 use crate::delta::HeldPut;
@@ -12,9 +9,12 @@ use crate::delta::SendDelta;
 use crate::delta::no_entry;
 use crate::delta::no_frame;
 use crate::delta::no_held;
-use crate::numbers::at_least_one;
-use crate::numbers::message_count;
 use crate::state::Core;
+use rules::batch::single_of;
+use rules::batch::with_message;
+use rules::chunks::chunked_bytes;
+use rules::numbers::at_least_one;
+use rules::numbers::message_count;
 use types::answer::SendDecision;
 use types::entry::Publish;
 use types::entry::Replay;

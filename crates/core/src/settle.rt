@@ -1,27 +1,12 @@
 // The scalars once an entry is settled.
 ghost use mathlib.Core.Path.{_≡_};
-ghost use Prim.Native.Nat.{_-_};
-ghost use Rattle.core.specs.Settle.{coreWithout, corePublished, headAfter};
-use crate::numbers::at_most;
+ghost use Rattle.core.specs.Settle.{coreWithout, corePublished};
 use crate::state::Core;
+use rules::numbers::at_most;
+use rules::numbers::saturating_sub;
+use rules::rings::head_after;
 use types::answer::Outcome;
 use types::signed::signed_of;
-
-fn head_after(head: usize, place: usize) -> usize
-    ensures { λ r. ⌜ r ≡ headAfter head place ⌝ }
-{
-    if place == 0 {
-        (head % 256 + 1) % 256
-    } else {
-        head
-    }
-}
-
-fn less_one(n: usize) -> usize
-    ensures { λ r. ⌜ r ≡ n - 1 ⌝ }
-{
-    if 0 < n { n - 1 } else { 0 }
-}
 
 impl Core {
     // The entry at a place leaves. The ring then begins one on, if it was the first; else the entries behind it have moved up.
@@ -30,7 +15,7 @@ impl Core {
     {
         let n = at_most(self.rings.pending_len, 256);
         let head = head_after(self.rings.pending_head, place);
-        let len = less_one(n);
+        let len = saturating_sub(n, 1);
         self.rings.pending_head = head;
         self.rings.pending_len = len;
         self

@@ -1,6 +1,7 @@
 // The scalars of a producer.
 ghost use mathlib.Core.Path.{_≡_};
 ghost use Rattle.core.specs.State.{newCore};
+use rules::rings::Rings;
 use types::batch::BatchContainer;
 use types::frame::ProducerName;
 use types::optional::MaybeU64;
@@ -11,27 +12,6 @@ use types::settings::Switches;
 use types::stats::Counters;
 use types::stats::SequenceIds;
 use types::types::ProducerHandle;
-
-// Where the rings of the state begin and how long they are. Any numbers will do: a head is read as `head % N`, a length as
-// `min(len, N)`.
-pub struct Rings {
-    pub outbound_head: usize,
-    pub outbound_len: usize,
-    // The waiting frames, chunks counted singly.
-    pub waiting: usize,
-    pub held_head: usize,
-    pub held_len: usize,
-    pub pending_head: usize,
-    pub pending_len: usize,
-}
-
-impl Rings {
-    pub const OUTBOUND: usize = 1024;
-
-    pub const HELD: usize = 512;
-
-    pub const PENDING: usize = 256;
-}
 
 pub struct Core {
     pub handle: ProducerHandle,

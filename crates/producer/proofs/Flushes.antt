@@ -15,7 +15,8 @@ use Rattle.queue.specs.Batch.{batchRecord, withBatch, isEmpty, flushed, flushBa
 use Rattle.queue.specs.Send.{flushIf}
 use Rattle.queue.specs.Told.{toldCount, Kept}
 use Rattle.core.specs.Delta.{countedCore}
-use Rattle.core.specs.Batch.{flushedCore, flushedIf, makesFrame, flushAnswer, flushOf, flushPlanned}
+use Rattle.rules.specs.Batch.{makesFrame}
+use Rattle.core.specs.Batch.{flushedCore, flushedIf, flushAnswer, flushOf, flushPlanned}
 use Rattle.core.specs.declared.state.Core.{Core}
 use Rattle.core.specs.declared.delta.FlushDelta.{FlushDelta}
 use Rattle.core.specs.declared.delta.Pushed.{Pushed}

@@ -13,7 +13,8 @@ use Rattle.laws.proofs.Choice.{pick-true, pick-false}
 use Rattle.laws.proofs.Rings.{ring-drop}
 use Rattle.types.specs.declared.entry.OpSend.{OpSend}
 use Rattle.queue.specs.Queue.{withPending}
-use Rattle.core.specs.Settle.{coreWithout, headAfter}
+use Rattle.rules.specs.Rings.{headAfter}
+use Rattle.core.specs.Settle.{coreWithout}
 use Rattle.producer.specs.View.{view, slotsOf}
 use Rattle.producer.specs.Settle.{withSlots, GapClosed}
 use Rattle.producer.specs.declared.state.ProducerState.{ProducerState}

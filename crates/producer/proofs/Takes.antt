@@ -40,13 +40,18 @@ use Rattle.queue.specs.Told.{Kept}
 use Rattle.queue.specs.Batch.{atLeastOne}
 use Rattle.wire.specs.Uuid.{uuidText}
 use Rattle.laws.proofs.Choice.{and-left, differ}
-use Rattle.core.specs.Take.{borne, nameIn, skipOf, pieceLen, spanAt, spanOf, payloadOf, isBatch, heldCount, Writable, answerOf, isDone, presentIf, frameOut, hasNext, staysOf, recordAfter, coreTaken, takePlanned}
-use Rattle.core.specs.declared.take.Span.{Span}
+use Rattle.frames.specs.Span.{borne, nameIn, skipOf, pieceLen, spanAt, spanOf, isBatch, heldCount}
+use Rattle.frames.specs.Payload.{payloadOf, Writable}
+use Rattle.frames.specs.Answer.{answerOf, isDone}
+use Rattle.frames.specs.Outbound.{presentIf, frameOut}
+use Rattle.frames.specs.After.{hasNext, staysOf, recordAfter}
+use Rattle.core.specs.Take.{coreTaken, takePlanned}
+use Rattle.frames.specs.declared.span.Span.{Span}
 use Rattle.core.specs.declared.take.TakePlan.{TakePlan}
 use Rattle.types.specs.declared.message.MaybePart.the-variants as part
 use Rattle.types.specs.declared.optional.MaybeU64.the-variants as number
 use Rattle.types.specs.declared.optional.MaybeBool.the-variants as mark
-use Rattle.core.proofs.Batches.{all-in}
+use Rattle.frames.proofs.Batches.{all-in}
 use Rattle.producer.specs.View.{view}
 use Rattle.producer.specs.Take.{frameTold, toldFrame}
 use Rattle.producer.specs.declared.state.ProducerState.{ProducerState}

@@ -5,8 +5,8 @@ ghost use Rattle.queue.specs.Ids.{nextSendDeadline, nextBatchDeadline, batchDea
 ghost use Rattle.queue.specs.Queries.{mayAdd, outboundLen, stats};
 ghost use Rattle.producer.specs.View.{view};
 use crate::state::ProducerState;
-use core::ids::elapsed;
-use core::numbers::at_most;
+use rules::deadline::elapsed;
+use rules::numbers::at_most;
 use types::optional::MaybeU64;
 use types::stats::ProducerStats;
 

@@ -2,7 +2,7 @@
 ghost use mathlib.Core.Path.{_≡_};
 ghost use mathlib.Core.List.{map};
 ghost use lib.ListN.{getD};
-ghost use Rattle.core.specs.Pending.{located};
+ghost use Rattle.rules.specs.Pending.{located};
 ghost use Prim.Native.Nat.{_<_, min};
 ghost use Rattle.laws.specs.Lists.{without};
 ghost use Rattle.queue.specs.Queue.{withPending};
@@ -12,10 +12,10 @@ ghost use Rattle.producer.specs.Settle.{GapClosed, Settles, keyOf, unmar
 ghost use Rattle.producer.specs.Answers.{toldReceipt, toldError};
 ghost use Rattle.producer.specs.View.{view, entryOf};
 use crate::state::ProducerState;
-use core::numbers::at_most;
-use core::pending::Found;
-use core::pending::locate;
-use core::pending::unmark;
+use rules::numbers::at_most;
+use rules::pending::Found;
+use rules::pending::locate;
+use rules::pending::unmark;
 use types::answer::Outcome;
 use types::command::CommandSendError;
 use types::command::CommandSendReceipt;

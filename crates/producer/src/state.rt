@@ -2,8 +2,8 @@
 ghost use mathlib.Core.Path.{_≡_};
 ghost use Rattle.queue.specs.Queue.{newQueue};
 ghost use Rattle.producer.specs.View.{view};
-use core::blank::no_message;
 use core::state::Core;
+use rules::blank::no_message;
 use types::entry::Publish;
 use types::entry::Replay;
 use types::frame::FrameKind;

@@ -6,9 +6,9 @@ ghost use Rattle.queue.specs.Told.{Kept};
 ghost use Rattle.producer.specs.Take.{toldFrame};
 ghost use Rattle.producer.specs.View.{view};
 use crate::state::ProducerState;
-use core::take::held_count;
-use core::take::payload_span;
-use core::take::put_payload;
+use frames::payload::put_payload;
+use frames::span::held_count;
+use frames::span::payload_span;
 use types::answer::Outcome;
 use types::outbound::OutboundFrame;
 

@@ -2,7 +2,8 @@
 use borrow.Author.Needs.{needs}
 use mathlib.Core.Path.{ap, _∙_}
 use mathlib.Core.Bool.{Bool}
-use Rattle.core.specs.Batch.{flushedIf, makesFrame}
+use Rattle.rules.specs.Batch.{makesFrame}
+use Rattle.core.specs.Batch.{flushedIf}
 use Rattle.core.proofs.state.Core.plan_flush.Statement.{statement}
 use Rattle.core.proofs.state.Core.plan_flush.Tie as tie
 

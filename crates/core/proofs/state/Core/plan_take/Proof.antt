@@ -1,7 +1,8 @@
 -- `Core::plan_take`: part by part, by what the callees ensure.
 use mathlib.Core.Path.{_≡_, refl, ap, sym, _∙_}
 use mathlib.Core.Bool.{Bool, true, false, _&&_}
-use Rattle.core.specs.Take.{isDone, coreTaken}
+use Rattle.frames.specs.Answer.{isDone}
+use Rattle.core.specs.Take.{coreTaken}
 use borrow.Author.Needs.{needs}
 use Rattle.core.proofs.state.Core.plan_take.Statement.{statement}
 use Rattle.core.proofs.state.Core.plan_take.Tie as tie

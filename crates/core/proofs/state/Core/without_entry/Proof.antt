@@ -12,17 +12,17 @@ at-most-requires c κs = search needs
 head-after-requires : tie.Need-head-after-requires
 head-after-requires c κs = search needs
 
-less-one-requires : tie.Need-less-one-requires
-less-one-requires c κs = search needs
+saturating-sub-requires : tie.Need-saturating-sub-requires
+saturating-sub-requires c κs = search needs
 
 returns : tie.Need-returns
 returns c =
     let a = c .before .before .before .before .before .args in
     let r = a .self .rings in
     let head = c .before .before .before .head-after .ensures in
-    let len = c .before .before .less-one .ensures ∙ ap (λ (n : ℕ). n - 1) (c .before .before .before .before .at-most .ensures) in
+    let len = c .before .before .saturating-sub .ensures ∙ ap (λ (n : ℕ). n - 1) (c .before .before .before .before .at-most .ensures) in
     λ j. coreRings (pendingRing (head j) (len j) r) (a .self)
 
 pub without-entry-spec : {M : Type 1} → statement M
 without-entry-spec =
-    tie.close (tie.spec at-most-requires head-after-requires less-one-requires returns)
+    tie.close (tie.spec at-most-requires head-after-requires saturating-sub-requires returns)

@@ -1,0 +1,5 @@
+pub mod Span
+pub mod Payload
+pub mod Answer
+pub mod Outbound
+pub mod After

@@ -1,0 +1,124 @@
+// The payload of the front frame: whether all that the frame bears lies in the store, where it starts, and its length.
+ghost use mathlib.Core.Path.{_≡_};
+ghost use Prim.Native.Nat.{_≤_};
+ghost use Rattle.laws.specs.Ring.{ring};
+ghost use Rattle.frames.specs.Span.{skipOf, pieceLen, messageSpan, batchSpan, isBatch, heldCount, spanOf};
+use crate::inside::message_inside;
+use crate::inside::piece_inside;
+use crate::inside::single_inside;
+use rules::numbers::at_most;
+use rules::numbers::saturating_add;
+use rules::numbers::saturating_sub;
+use types::frame::FrameKind;
+use types::frame::FrameRecord;
+use types::message::SingleMessage;
+use wire::batch::item_len;
+
+// The payload of the front frame.
+pub struct Span {
+    // Whether all that the frame bears lies in the store.
+    pub inside: bool,
+    // Where a message's payload starts in the store.
+    pub start: usize,
+    pub len: usize,
+}
+
+fn skip_of(kind: FrameKind) -> usize
+    ensures { λ r. ⌜ r ≡ skipOf kind ⌝ }
+{
+    match kind {
+        FrameKind::Single => 0,
+        FrameKind::Batch(_) => 0,
+        FrameKind::Chunked(c) => c.next_chunk as usize * c.max_chunk_size as usize,
+    }
+}
+
+fn piece_len(kind: FrameKind, len: usize, skip: usize) -> usize
+    ensures { λ r. ⌜ r ≡ pieceLen kind len skip ⌝ }
+{
+    match kind {
+        FrameKind::Single => len,
+        FrameKind::Batch(_) => len,
+        FrameKind::Chunked(c) => at_most(c.max_chunk_size as usize, saturating_sub(len, skip)),
+    }
+}
+
+// Of a frame with a single message or with the next chunk of one.
+pub fn message_span(front: FrameRecord, n: usize) -> Span
+    ensures { λ r. ⌜ r ≡ messageSpan n front ⌝ }
+{
+    let kind = front.kind;
+    let m = front.message;
+    let payload = m.payload;
+    let start = payload.start;
+    let skip = skip_of(kind);
+    let len = piece_len(kind, payload.len, skip);
+    let inside = message_inside(piece_inside(start, skip, len, n), m, n);
+    Span {
+        inside: inside,
+        start: saturating_add(start, skip),
+        len: len,
+    }
+}
+
+pub fn is_batch(kind: FrameKind) -> bool
+    ensures { λ r. ⌜ r ≡ isBatch kind ⌝ }
+{
+    match kind {
+        FrameKind::Single => false,
+        FrameKind::Batch(_) => true,
+        FrameKind::Chunked(_) => false,
+    }
+}
+
+// How many of the held messages go with the frame.
+pub fn held_count(kind: FrameKind, held_len: usize) -> usize
+    ensures { λ r. ⌜ r ≡ heldCount kind «held_len» ⌝ }
+{
+    match kind {
+        FrameKind::Single => 0,
+        FrameKind::Batch(b) => at_most(b.num_messages, at_most(held_len, 512)),
+        FrameKind::Chunked(_) => 0,
+    }
+}
+
+// Of the first `count` of the held messages.
+pub fn batch_span(held: [SingleMessage; 512], head: usize, count: usize, n: usize) -> Span
+    requires { ⌜ count ≤ 512 ⌝ }
+    ensures { λ r. ⌜ r ≡ batchSpan n (ring 512 held head count) ⌝ }
+{
+    let h = head % 512;
+    let mut inside = true;
+    let mut len: usize = 0;
+    let mut i: usize = 0;
+    while i < count {
+        let at = (h + i) % 512;
+        let m = held[at];
+        inside = inside & single_inside(m, n);
+        len = saturating_add(len, item_len(m));
+        i += 1;
+    }
+    Span {
+        inside: inside,
+        start: 0,
+        len: len,
+    }
+}
+
+pub fn payload_span(
+    front: FrameRecord,
+    held: [SingleMessage; 512],
+    head: usize,
+    count: usize,
+    n: usize,
+) -> Span
+    requires { ⌜ count ≤ 512 ⌝ }
+    ensures { λ r. ⌜ r ≡ spanOf n front (front .kind) (ring 512 held head count) ⌝ }
+{
+    let kind = front.kind;
+    if is_batch(kind) {
+        batch_span(held, head, count, n)
+    } else {
+        message_span(front, n)
+    }
+}

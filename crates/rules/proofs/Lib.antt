@@ -1,0 +1,4 @@
+pub mod Keys
+pub mod Names
+pub mod Rounding
+pub mod Tests

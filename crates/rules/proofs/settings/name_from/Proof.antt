@@ -1,0 +1,58 @@
+-- `rules::settings::name_from`: the bytes before the place are copied, and zeros stand behind them.
+use Prim.Native.Nat.{ℕ, _-_, _≤_}
+use mathlib.Core.List.{List}
+use mathlib.Core.Path.{_≡_, refl, ap, _∙_}
+use lib.ListN.{length, getD, set}
+use Rattle.rules.proofs.Names.{padded, padded-step, padded-end}
+use borrow.Author.Needs.{needs}
+use native.Mathlib.Omega.{arith}
+use Rattle.rules.proofs.settings.name_from.Statement.{statement}
+use Rattle.rules.proofs.settings.name_from.Tie as tie
+
+abbrev Inv-loop : tie.InvT-loop
+Inv-loop name bytes₀ i₀ bytes i = (i ≤ length name) × (bytes ≡ padded name i)
+
+abbrev μ-loop : tie.MeasureT-loop
+μ-loop name bytes₀ i₀ bytes i = length name - i
+
+loop-holds : tie.Need-loop-holds Inv-loop μ-loop
+loop-holds c = (omega arith, refl)
+
+shared-slice-read-bytes : tie.Need-shared-slice-read-bytes Inv-loop μ-loop
+shared-slice-read-bytes c = search needs
+
+array-write-bytes : tie.Need-array-write-bytes Inv-loop μ-loop
+array-write-bytes c = search needs
+
+add-i : tie.Need-add-i Inv-loop μ-loop
+add-i c = search needs
+
+loop-less : tie.Need-loop-less Inv-loop μ-loop
+loop-less c = search needs
+
+loop-again : tie.Need-loop-again Inv-loop μ-loop
+loop-again c =
+    let k = c .before .before .loop in
+    let name = c .before .before .before .args .name .now in
+    (omega arith, ap (λ (l : List ℕ). set l (k .i) (getD name (k .i) 0)) (k .inv .1) ∙ padded-step name (k .i) (omega arith) (c .before .before .before .pre))
+
+returns : tie.Need-returns Inv-loop μ-loop
+returns c =
+    let k = c .before .loop in
+    let name = c .before .before .args .name .now in
+    let e = k .inv .1 ∙ padded-end name (k .i) (omega arith) in
+    λ j. record { bytes = e j; len = length name }
+
+pub name-from-spec : {M : Type 1} → statement M
+name-from-spec =
+    tie.close
+    (tie.spec
+    Inv-loop
+    μ-loop
+    loop-holds
+    shared-slice-read-bytes
+    array-write-bytes
+    add-i
+    loop-less
+    loop-again
+    returns)

@@ -1,0 +1,5 @@
+pub mod Batch
+pub mod Chunks
+pub mod Deadline
+pub mod Pending
+pub mod Rings

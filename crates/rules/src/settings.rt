@@ -1,0 +1,107 @@
+// Settings one by one (document 01, 'Who can cause a refusal', setup).
+ghost use mathlib.Core.Path.{_≡_};
+ghost use Prim.Native.Nat.{_≤_};
+ghost use lib.ListN.{length};
+ghost use Rattle.queue.specs.Settings.{allowed, changed, nameFrom};
+use types::frame::ProducerName;
+use types::settings::Delays;
+use types::settings::ProducerSettings;
+use types::settings::Setting;
+
+// Not refused by 8.
+pub fn allows(s: Setting) -> bool
+    ensures { λ r. ⌜ r ≡ allowed s ⌝ }
+{
+    match s {
+        Setting::MaxMessageSize(n) => n <= 16_777_216,
+        Setting::MaxBatchSizeBytes(n) => n <= 16_777_216,
+        Setting::MaxMessagesInBatch(n) => n <= 128,
+        Setting::BatchingEnabled(_) => true,
+        Setting::ChunkingEnabled(_) => true,
+        Setting::SendTimeout(_) => true,
+        Setting::BatchingMaxPublishDelay(_) => true,
+        Setting::BrokerReady(_) => true,
+    }
+}
+
+pub fn with_setting(t: ProducerSettings, s: Setting) -> ProducerSettings
+    ensures { λ r. ⌜ r ≡ changed s t ⌝ }
+{
+    let mut limits = t.limits;
+    let mut switches = t.switches;
+    let delays = t.delays;
+    match s {
+        Setting::MaxMessageSize(n) => {
+            limits.max_message_size = n;
+            ProducerSettings {
+                limits: limits,
+                ..t
+            }
+        }
+        Setting::MaxBatchSizeBytes(n) => {
+            limits.max_batch_size_bytes = n;
+            ProducerSettings {
+                limits: limits,
+                ..t
+            }
+        }
+        Setting::MaxMessagesInBatch(n) => {
+            limits.max_messages_in_batch = n;
+            ProducerSettings {
+                limits: limits,
+                ..t
+            }
+        }
+        Setting::BatchingEnabled(b) => {
+            switches.batching_enabled = b;
+            ProducerSettings {
+                switches: switches,
+                ..t
+            }
+        }
+        Setting::ChunkingEnabled(b) => {
+            switches.chunking_enabled = b;
+            ProducerSettings {
+                switches: switches,
+                ..t
+            }
+        }
+        Setting::SendTimeout(d) => {
+            let later = Delays {
+                send_timeout: d,
+                ..delays
+            };
+            ProducerSettings { delays: later, ..t }
+        }
+        Setting::BatchingMaxPublishDelay(d) => {
+            let later = Delays {
+                batching_max_publish_delay: d,
+                ..delays
+            };
+            ProducerSettings { delays: later, ..t }
+        }
+        Setting::BrokerReady(b) => {
+            switches.broker_ready = b;
+            ProducerSettings {
+                switches: switches,
+                ..t
+            }
+        }
+    }
+}
+
+pub fn name_from(name: &[u8]) -> ProducerName
+    requires { ⌜ length (now name) ≤ 64 ⌝ }
+    ensures { λ r. ⌜ r ≡ nameFrom (now (name .entry)) ⌝ }
+{
+    let mut bytes = [0u8; 64];
+    let mut i = 0;
+    while i < name.len() {
+        bytes[i] = name[i];
+        i += 1;
+    }
+    ProducerName {
+        bytes: bytes,
+        len: name.len(),
+    }
+}
