@@ -19,6 +19,7 @@ use Rattle.rules.specs.declared.rings.Rings.{Rings}
 use Rattle.rules.specs.declared.rings.Place.{Place}
 use Rattle.rules.specs.Rings.{placeOf}
 use Rattle.core.specs.declared.state.Core.{Core}
+use Rattle.core.specs.State.{coreRings}
 use Rattle.core.specs.declared.delta.FramePut.{FramePut}
 use Rattle.core.specs.declared.delta.EntryPut.{EntryPut}
 use Rattle.core.specs.declared.delta.HeldPut.{HeldPut}
@@ -81,9 +82,6 @@ noHeld =
 
 abbrev pub coreBatch : BatchContainer → Core → Core
 coreBatch b c = record { handle = c .handle; settings = c .settings; ids = c .ids; counters = c .counters; batch = b; rings = c .rings }
-
-abbrev pub coreRings : Rings → Core → Core
-coreRings r c = record { handle = c .handle; settings = c .settings; ids = c .ids; counters = c .counters; batch = c .batch; rings = r }
 
 abbrev pub countedCore : ℕ → ℕ → Core → Core
 countedCore messages bytes c =

@@ -8,10 +8,7 @@ use Rattle.types.specs.declared.stats.SequenceIds.{SequenceIds}
 use Rattle.rules.specs.declared.rings.Rings.{Rings}
 use Rattle.rules.specs.Rings.{headAfter}
 use Rattle.core.specs.declared.state.Core.{Core}
-use Rattle.core.specs.State.{coreIds}
-
-abbrev pub coreRings : Rings → Core → Core
-coreRings r c = record { handle = c .handle; settings = c .settings; ids = c .ids; counters = c .counters; batch = c .batch; rings = r }
+use Rattle.core.specs.State.{coreIds, coreRings}
 
 abbrev pub pendingRing : ℕ → ℕ → Rings → Rings
 pendingRing head len r =

@@ -20,3 +20,6 @@ coreSettings t c = record { handle = c .handle; settings = t; ids = c .ids; coun
 
 abbrev pub coreIds : SequenceIds → Core → Core
 coreIds i c = record { handle = c .handle; settings = c .settings; ids = i; counters = c .counters; batch = c .batch; rings = c .rings }
+
+abbrev pub coreRings : Rings → Core → Core
+coreRings r c = record { handle = c .handle; settings = c .settings; ids = c .ids; counters = c .counters; batch = c .batch; rings = r }

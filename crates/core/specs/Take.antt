@@ -12,7 +12,7 @@ use Rattle.frames.specs.Outbound.{frameOut}
 use Rattle.frames.specs.After.{staysOf, recordAfter}
 use Rattle.core.specs.declared.state.Core.{Core}
 use Rattle.core.specs.declared.take.TakePlan.{TakePlan}
-use Rattle.core.specs.Settle.{coreRings}
+use Rattle.core.specs.State.{coreRings}
 
 abbrev pub outRings : ℕ → ℕ → ℕ → ℕ → ℕ → Rings → Rings
 outRings head len waiting heldHead heldLen r =

@@ -2,13 +2,9 @@
 ghost use mathlib.Core.Path.{_≡_};
 ghost use Rattle.core.specs.State.{newCore};
 use rules::rings::Rings;
+use rules::settings::new_settings;
 use types::batch::BatchContainer;
-use types::frame::ProducerName;
-use types::optional::MaybeU64;
-use types::settings::Delays;
-use types::settings::Limits;
 use types::settings::ProducerSettings;
-use types::settings::Switches;
 use types::stats::Counters;
 use types::stats::SequenceIds;
 use types::types::ProducerHandle;
@@ -27,30 +23,11 @@ impl Core {
     pub fn new(handle: ProducerHandle) -> Core
         ensures { λ r. ⌜ r ≡ newCore handle ⌝ }
     {
+        let settings = new_settings();
         let batch = BatchContainer::empty();
         Core {
             handle: handle,
-            settings: ProducerSettings {
-                name: ProducerName {
-                    bytes: [0; 64],
-                    len: 0,
-                },
-                limits: Limits {
-                    max_message_size: 5_242_880,
-                    max_batch_size_bytes: 131_072,
-                    max_messages_in_batch: 128,
-                },
-                switches: Switches {
-                    batching_enabled: false,
-                    chunking_enabled: false,
-                    broker_ready: false,
-                    closed: false,
-                },
-                delays: Delays {
-                    send_timeout: MaybeU64::Absent,
-                    batching_max_publish_delay: MaybeU64::Absent,
-                },
-            },
+            settings: settings,
             ids: SequenceIds {
                 next_sequence_id: 0,
                 last_sequence_id_pushed: -1,

@@ -1,5 +1,5 @@
 -- The loops over the messages of a batch frame, which are the first of the held ring: their parts and lengths, and their items. Assumes nothing.
-use Prim.Native.Nat.{ℕ, zero, suc, _+_, _-_, _<_, _≤_, _^_, min}
+use Prim.Native.Nat.{ℕ, _+_, _-_, _<_, _≤_, _^_}
 use mathlib.Core.Bool.{Bool, true, false, _&&_}
 use mathlib.Core.List.{List, [], _∷_, _++_}
 use mathlib.Core.Path.{_≡_, refl, ap, sym, subst, _∙_}
@@ -15,7 +15,6 @@ use Rattle.types.specs.Values.{partIn, maybeIn}
 use Rattle.types.specs.declared.message.SingleMessage.{SingleMessage}
 use Rattle.wire.specs.Batch.{item, itemOf, batchPayload, All, InStore}
 use Rattle.wire.specs.Length.{stopped, itemLength, batchLength}
-use Rattle.wire.proofs.Writes.{Going}
 use Rattle.wire.proofs.ItemLaws.{batch-step, all-at}
 use Rattle.queue.specs.Frame.{singleIn, allIn}
 use Rattle.laws.proofs.Choice.{and-left, and-right}

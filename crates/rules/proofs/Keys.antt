@@ -1,6 +1,6 @@
 -- Laws of ids zipped with marks: lengths, elements, and clearing as a change of each element. Assumes nothing.
 use mathlib.Core.Path.{_≡_, refl, ap, sym, _∙_}
-use mathlib.Core.Bool.{Bool, true, false, not}
+use mathlib.Core.Bool.{true, not}
 use mathlib.Core.List.{List, [], _∷_, _++_, append-nil}
 use Prim.Native.Nat.{ℕ, zero, suc, _+_, _<_, _≤_}
 use native.Mathlib.Omega.{arith}
@@ -9,7 +9,7 @@ use lib.ListN.{length, getD, take, drop, set, length-set, drop-of-length-le}
 use lib.Seq.{drop-cons, take-all}
 use native.Mathlib.Numerals.{add-one}
 use Rattle.laws.proofs.Lists.{stored}
-use Rattle.rules.specs.Pending.{Key, keys, cleared, clearedAll}
+use Rattle.rules.specs.Pending.{keys, cleared, clearedAll}
 
 pub length-keys : (is ms : List ℕ) → length is ≡ length ms → length (keys is ms) ≡ length is
 length-keys [] ms e = refl

@@ -2,11 +2,42 @@
 ghost use mathlib.Core.Path.{_≡_};
 ghost use Prim.Native.Nat.{_≤_};
 ghost use lib.ListN.{length};
+ghost use Rattle.queue.specs.Queue.{newSettings};
 ghost use Rattle.queue.specs.Settings.{allowed, changed, nameFrom};
 use types::frame::ProducerName;
+use types::optional::MaybeU64;
 use types::settings::Delays;
+use types::settings::Limits;
 use types::settings::ProducerSettings;
 use types::settings::Setting;
+use types::settings::Switches;
+
+// Of a new producer.
+pub fn new_settings() -> ProducerSettings
+    ensures { λ r. ⌜ r ≡ newSettings ⌝ }
+{
+    ProducerSettings {
+        name: ProducerName {
+            bytes: [0; 64],
+            len: 0,
+        },
+        limits: Limits {
+            max_message_size: 5_242_880,
+            max_batch_size_bytes: 131_072,
+            max_messages_in_batch: 128,
+        },
+        switches: Switches {
+            batching_enabled: false,
+            chunking_enabled: false,
+            broker_ready: false,
+            closed: false,
+        },
+        delays: Delays {
+            send_timeout: MaybeU64::Absent,
+            batching_max_publish_delay: MaybeU64::Absent,
+        },
+    }
+}
 
 // Not refused by 8.
 pub fn allows(s: Setting) -> bool

@@ -1,7 +1,7 @@
 -- `frames::after::record_after`: the match is the definition's, and the chunk's number moves on only below the count.
 use Prim.Native.Nat.{_+_, _<_}
-use mathlib.Core.Path.{_≡_, refl, ap, sym, _∙_}
-use borrow.Author.Tests.{lt-ltb, le-ltb, le-leb, lt-leb, ltb-true, ltb-false, leb-true, leb-false, eq-eqb, ne-eqb}
+use mathlib.Core.Path.{ap, sym, _∙_}
+use borrow.Author.Tests.{ltb-true}
 use Rattle.laws.proofs.Choice.{pick-true, pick-false}
 use Rattle.frames.specs.After.{recordAfter}
 use borrow.Author.Needs.{needs}

@@ -1,5 +1,5 @@
 -- `frames::after::stays`: the match is the definition's.
-use mathlib.Core.Path.{_≡_, refl, ap, sym, _∙_}
+use mathlib.Core.Path.{ap, sym, _∙_}
 use Rattle.frames.specs.After.{staysOf}
 use borrow.Author.Needs.{needs}
 use Rattle.frames.proofs.after.stays.Statement.{statement}

@@ -1,6 +1,6 @@
 -- `frames::answer::answer_of`: the tests are those of the definition, in its order.
-use mathlib.Core.Path.{_≡_, refl, ap, sym, _∙_}
-use borrow.Author.Tests.{lt-ltb, le-ltb, le-leb, lt-leb, ltb-true, ltb-false, leb-true, leb-false, eq-eqb, ne-eqb}
+use mathlib.Core.Path.{sym, _∙_}
+use borrow.Author.Tests.{lt-ltb, le-ltb, eq-eqb, ne-eqb}
 use Rattle.laws.proofs.Choice.{pick-true, pick-false}
 use native.Mathlib.Omega.{arith}
 use Rattle.frames.proofs.answer.answer_of.Statement.{statement}

@@ -1,6 +1,6 @@
 -- `frames::inside::name_inside`: by the test.
-use mathlib.Core.Path.{_≡_, refl, ap, sym, _∙_}
-use borrow.Author.Tests.{lt-ltb, le-ltb, le-leb, lt-leb, ltb-true, ltb-false, leb-true, leb-false, eq-eqb, ne-eqb}
+use mathlib.Core.Path.{sym, _∙_}
+use borrow.Author.Tests.{eq-eqb, ne-eqb}
 use Rattle.laws.proofs.Choice.{pick-true, pick-false}
 use borrow.Author.Needs.{needs}
 use native.Mathlib.Omega.{arith}

@@ -1,10 +1,10 @@
 -- `frames::inside::piece_inside`: what was skipped is taken off the store's length.
 use native.Mathlib.Omega.{arith}
-use mathlib.Core.Path.{_≡_, refl, ap, sym, _∙_}
-use borrow.Author.Tests.{lt-ltb, le-ltb, le-leb, lt-leb, ltb-true, ltb-false, leb-true, leb-false, eq-eqb, ne-eqb}
+use mathlib.Core.Path.{_≡_, ap, sym, _∙_}
+use borrow.Author.Tests.{lt-leb}
 use Prim.Native.Nat.{ℕ, _+_, _-_, _≤_}
-use native.Mathlib.Decide.{decLe}
 use lib.Dec.{leb}
+use Rattle.rules.proofs.Tests.{fits}
 use borrow.Author.Needs.{needs}
 use Rattle.frames.proofs.inside.piece_inside.Statement.{statement}
 use Rattle.frames.proofs.inside.piece_inside.Tie as tie
@@ -13,11 +13,7 @@ part-in-requires : tie.Need-part-in-requires
 part-in-requires c κs = search needs
 
 same-test : (a s l n : ℕ) → s ≤ n → leb (a + l) (n - s) ≡ leb (a + s + l) n
-same-test a s l n b = go (decLe (a + s + l) n)
-  where
-    go : Dec (a + s + l ≤ n) → leb (a + l) (n - s) ≡ leb (a + s + l) n
-    go (yes p) = le-leb (a + l) (n - s) (omega arith) ∙ sym (le-leb (a + s + l) n p)
-    go (no p) = lt-leb (a + l) (n - s) (omega arith) ∙ sym (lt-leb (a + s + l) n (omega arith))
+same-test a s l n b = let e : a + l + s ≡ a + s + l = omega arith in fits (a + l) s n b ∙ ap (λ (x : ℕ). leb x n) e
 
 returns : tie.Need-returns
 returns c = c .part-in .ensures ∙ same-test (c .before .before .args .start) (c .before .before .args .skip) (c .before .before .args .len) (c .before .before .args .n) (omega arith)

@@ -1,5 +1,4 @@
 -- `frames::outbound::batch_frame`: field by field, by what `present_if` ensures.
-use mathlib.Core.Path.{_≡_, refl, ap, sym, _∙_}
 use Rattle.frames.specs.Outbound.{batchFrameOut}
 use borrow.Author.Needs.{needs}
 use Rattle.frames.proofs.outbound.batch_frame.Statement.{statement}

@@ -1,6 +1,6 @@
 -- `frames::outbound::chunk_frame`: the text is what `uuid_text` ensures.
-use mathlib.Core.Path.{_≡_, refl, ap, sym, _∙_}
-use mathlib.Core.Bool.{Bool, true, false, _&&_}
+use mathlib.Core.Path.{_∙_}
+use mathlib.Core.Bool.{true}
 use Rattle.frames.specs.Outbound.{messageOut}
 use Rattle.types.specs.declared.optional.MaybeU64.the-variants as number
 use Rattle.types.specs.declared.optional.MaybeBool.the-variants as mark

@@ -1,5 +1,5 @@
 -- `frames::outbound::frame_of`: the match is the definition's.
-use mathlib.Core.Path.{_≡_, refl, ap, sym, _∙_}
+use mathlib.Core.Path.{ap, sym, _∙_}
 use Rattle.types.specs.declared.frame.FrameKind.{FrameKind}
 use Rattle.frames.specs.Outbound.{frameOut}
 use borrow.Author.Needs.{needs}

@@ -1,6 +1,6 @@
 -- `frames::outbound::present_if`: by the test.
-use mathlib.Core.Path.{_≡_, refl, ap, sym, _∙_}
-use Rattle.laws.proofs.Choice.{pick-true, pick-false}
+use mathlib.Core.Path.{sym}
+use Rattle.laws.proofs.Choice.{pick-true}
 use borrow.Author.Needs.{needs}
 use Rattle.frames.proofs.outbound.present_if.Statement.{statement}
 use Rattle.frames.proofs.outbound.present_if.Tie as tie

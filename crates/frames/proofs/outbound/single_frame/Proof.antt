@@ -4,7 +4,7 @@ use mir.ValLaws.{toZ-ofZ}
 use mir.Val.{toZ, ofZ}
 use mir.Syntax.{w32}
 use Rattle.queue.specs.Batch.{atLeastOne}
-use mathlib.Core.Path.{_≡_, refl, ap, sym, _∙_}
+use mathlib.Core.Path.{_≡_, ap, _∙_}
 use Rattle.frames.specs.Outbound.{messageOut, noUuid}
 use Rattle.types.specs.declared.optional.MaybeU64.the-variants as number
 use Rattle.types.specs.declared.optional.MaybeBool.the-variants as mark

@@ -1,5 +1,5 @@
 -- `frames::payload::put_payload`: by the test, either the items or a part of the store.
-use mathlib.Core.Path.{_≡_, refl, ap, sym, subst, _∙_}
+use mathlib.Core.Path.{_≡_, sym, subst, _∙_}
 use Rattle.laws.proofs.Choice.{pick-true, pick-false}
 use Prim.Native.Nat.{ℕ, _+_, _≤_}
 use mathlib.Core.List.{List}

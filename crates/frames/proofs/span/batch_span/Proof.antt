@@ -1,8 +1,8 @@
 -- `frames::span::batch_span`: what is tested and added up, with what is still to come, is that of the whole batch.
 use borrow.Author.Needs.{needs}
-use mathlib.Core.Path.{_≡_, refl, ap, sym, subst, _∙_}
-use mathlib.Core.Bool.{Bool, true, false, _&&_}
-use Prim.Native.Nat.{ℕ, _+_, _-_, _<_, _≤_, _^_}
+use mathlib.Core.Path.{_≡_, ap, subst, _∙_}
+use mathlib.Core.Bool.{Bool, _&&_}
+use Prim.Native.Nat.{_+_, _-_, _<_, _≤_, _^_}
 use lib.ListN.{length}
 use Rattle.laws.specs.Ring.{ring}
 use Rattle.laws.specs.Numbers.{addSat}

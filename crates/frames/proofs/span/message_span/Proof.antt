@@ -1,5 +1,5 @@
 -- `frames::span::message_span`: field by field, by what the callees ensure.
-use mathlib.Core.Path.{_≡_, refl, ap, sym, _∙_}
+use mathlib.Core.Path.{ap, _∙_}
 use Prim.Native.Nat.{_+_}
 use lib.Dec.{leb}
 use Rattle.laws.specs.Numbers.{addSat}

@@ -1,5 +1,5 @@
 -- `frames::span::payload_span`: by the test.
-use mathlib.Core.Path.{_≡_, refl, ap, sym, subst, _∙_}
+use mathlib.Core.Path.{sym, _∙_}
 use Rattle.laws.proofs.Choice.{pick-true, pick-false}
 use borrow.Author.Needs.{needs}
 use Rattle.frames.proofs.span.payload_span.Statement.{statement}

@@ -1,5 +1,5 @@
 -- `frames::span::piece_len`: the match is the definition's.
-use mathlib.Core.Path.{_≡_, refl, ap, sym, _∙_}
+use mathlib.Core.Path.{ap, sym, _∙_}
 use Rattle.types.specs.declared.frame.FrameKind.{FrameKind}
 use Prim.Native.Nat.{min}
 use Rattle.frames.specs.Span.{pieceLen}

@@ -1,12 +1,8 @@
 -- `frames::span::skip_of`: a product of two numbers of 32 bits fits 64.
-use mathlib.Core.Path.{_≡_, refl, ap, sym, _∙_}
-use Prim.Native.Nat.{ℕ, _*_, _<_, _^_, _≤_}
-use native.Mathlib.Nat.{mul-le-mul-left, mul-le-mul-right}
-use mir.Val.{Fits}
-use mir.Syntax.{w64}
+use mathlib.Core.Path.{ap, sym}
 use Rattle.frames.specs.Span.{skipOf}
+use Rattle.rules.proofs.Rounding.{product-below}
 use borrow.Author.Needs.{needs}
-use native.Mathlib.Omega.{arith}
 use Rattle.frames.proofs.span.skip_of.Statement.{statement}
 use Rattle.frames.proofs.span.skip_of.Tie as tie
 
@@ -25,15 +21,8 @@ cast-result c = search needs
 cast-result-2 : tie.Need-cast-result-2
 cast-result-2 c = search needs
 
-product : (a b : ℕ) → a < 2 ^ 32 → b < 2 ^ 32 → Fits w64 (a * b)
-product a b x y =
-    let p : a ≤ 4294967295 = omega arith in
-    let q : b ≤ 4294967295 = omega arith in
-    let r : a * b ≤ 4294967295 * b = mul-le-mul-right b p in
-    record { fits = omega arith }
-
 mul-result : tie.Need-mul-result
-mul-result c = (let k = c .before .before .before .kind .given .0 .0 in product (k .«next_chunk») (k .«max_chunk_size») (omega arith) (omega arith))
+mul-result c = record { fits = product-below 32 (search needs) (search needs) }
 
 returns : tie.Need-returns
 returns c = search needs

@@ -1,5 +1,5 @@
 -- `rules::deadline::after`: the match is the definition's.
-use mathlib.Core.Path.{_≡_, refl, ap, sym, _∙_}
+use mathlib.Core.Path.{ap, sym, _∙_}
 use Rattle.types.specs.declared.optional.MaybeU64.{MaybeU64}
 use Rattle.types.specs.declared.optional.MaybeU64.the-variants.{Present}
 use Rattle.rules.specs.Deadline.{maybeAfter}

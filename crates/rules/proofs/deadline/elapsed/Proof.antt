@@ -1,5 +1,5 @@
 -- `rules::deadline::elapsed`: the match is the definition's.
-use mathlib.Core.Path.{_≡_, ap, sym, _∙_}
+use mathlib.Core.Path.{ap, sym}
 use Rattle.rules.specs.Deadline.{hasElapsed}
 use borrow.Author.Needs.{needs}
 use Rattle.rules.proofs.deadline.elapsed.Statement.{statement}

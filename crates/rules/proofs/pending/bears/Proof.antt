@@ -1,5 +1,4 @@
 -- `rules::pending::bears`: the branches are the definition's tests.
-use mathlib.Core.Path.{_≡_, refl, ap, sym, _∙_}
 use borrow.Author.Tests.{eq-eqb, ne-eqb}
 use Rattle.rules.proofs.pending.bears.Statement.{statement}
 use Rattle.rules.proofs.pending.bears.Tie as tie

@@ -8,7 +8,7 @@ use Rattle.laws.proofs.Slots.{slot-below}
 use Rattle.laws.proofs.Loops.{Missed, missed-step, missed-hit, missed-all}
 use Rattle.rules.specs.Pending.{keys, wanted, toFound}
 use Rattle.rules.proofs.Keys.{length-keys, keys-at}
-use Prim.Native.Nat.{ℕ, _-_, _<_, _≤_, min}
+use Prim.Native.Nat.{ℕ, _-_, _<_}
 use mathlib.Core.Path.{_≡_, refl, ap, sym, _∙_}
 use borrow.Author.Needs.{needs}
 use native.Mathlib.Omega.{arith}

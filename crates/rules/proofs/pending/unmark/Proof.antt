@@ -1,6 +1,5 @@
 -- `rules::pending::unmark`: the marks before the place are cleared, and the rest is to come.
-use Prim.Native.Nat.{ℕ, _-_, _<_, _≤_, min}
-use mathlib.Core.Path.{_≡_, refl, ap, sym, _∙_}
+use Prim.Native.Nat.{_-_}
 use Rattle.rules.proofs.Keys.{Clearing, clear-start, clear-step, clear-end}
 use borrow.Author.Needs.{needs}
 use native.Mathlib.Omega.{arith}

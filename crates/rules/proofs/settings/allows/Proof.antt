@@ -1,5 +1,5 @@
 -- `rules::settings::allows`: the match is the definition's.
-use mathlib.Core.Path.{_≡_, refl, ap, sym, _∙_}
+use mathlib.Core.Path.{ap, sym}
 use Rattle.queue.specs.Settings.{allowed}
 use borrow.Author.Needs.{needs}
 use Rattle.rules.proofs.settings.allows.Statement.{statement}

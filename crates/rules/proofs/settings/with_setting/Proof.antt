@@ -1,5 +1,5 @@
 -- `rules::settings::with_setting`: the match is the definition's, and each arm writes one field.
-use mathlib.Core.Path.{_≡_, refl, ap, sym, _∙_}
+use mathlib.Core.Path.{ap, sym}
 use Rattle.types.specs.declared.settings.Setting.{Setting}
 use Rattle.queue.specs.Settings.{changed}
 use borrow.Author.Needs.{needs}

@@ -2,7 +2,7 @@
 use mathlib.Core.Path.{_≡_, refl, ap, sym, _∙_}
 use mathlib.Core.Bool.{Bool, true, false, _&&_}
 use Prim.Native.Nat.{ℕ, _+_, _-_, _%_}
-use Rattle.core.specs.Settle.{coreRings}
+use Rattle.core.specs.State.{coreRings}
 use Rattle.core.specs.Take.{outRings, coreTaken}
 use borrow.Author.Needs.{needs}
 use Rattle.core.proofs.state.Core.taken.Statement.{statement}

@@ -1,7 +1,8 @@
 -- `Core::without_entry`: head and length are what the helpers ensure.
 use mathlib.Core.Path.{_≡_, ap, _∙_}
 use Prim.Native.Nat.{ℕ, _-_}
-use Rattle.core.specs.Settle.{coreRings, pendingRing}
+use Rattle.core.specs.State.{coreRings}
+use Rattle.core.specs.Settle.{pendingRing}
 use borrow.Author.Needs.{needs}
 use Rattle.core.proofs.state.Core.without_entry.Statement.{statement}
 use Rattle.core.proofs.state.Core.without_entry.Tie as tie
