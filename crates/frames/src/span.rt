@@ -1,4 +1,4 @@
-// The payload of the front frame: whether all that the frame bears lies in the store, where it starts, and its length.
+// Where the payload of the front frame lies (document 01, 'sends').
 ghost use mathlib.Core.Path.{_≡_};
 ghost use Prim.Native.Nat.{_≤_};
 ghost use Rattle.laws.specs.Ring.{ring};
@@ -23,6 +23,7 @@ pub struct Span {
     pub len: usize,
 }
 
+// What of the payload went before.
 fn skip_of(kind: FrameKind) -> usize
     ensures { λ r. ⌜ r ≡ skipOf kind ⌝ }
 {

@@ -4,8 +4,7 @@ ghost use Prim.Native.Nat.{_<_, _≤_};
 ghost use Rattle.rules.specs.Rings.{placeOf, headAfter};
 use crate::numbers::at_most;
 
-// Any numbers will do: a head is read as `head % N`, a length as
-// `min(len, N)`.
+// Any numbers will do: a head is read as `head % N`, a length as `min(len, N)`.
 pub struct Rings {
     pub outbound_head: usize,
     pub outbound_len: usize,
@@ -54,7 +53,7 @@ pub fn place_of(cap: usize, head: usize, len: usize) -> Place
     }
 }
 
-// Once the entry at this place has left.
+// Where the pending ring begins once the entry at this place has left.
 pub fn head_after(head: usize, place: usize) -> usize
     ensures { λ r. ⌜ r ≡ headAfter head place ⌝ }
 {
