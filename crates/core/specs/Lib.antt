@@ -8,3 +8,4 @@ pub mod Batch
 pub mod Way
 pub mod Choose
 pub mod Send
+pub mod Replay

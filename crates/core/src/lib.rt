@@ -4,6 +4,7 @@ pub mod batch;
 pub mod choose;
 pub mod delta;
 pub mod ids;
+pub mod replay;
 pub mod send;
 pub mod settings;
 pub mod settle;

@@ -6,3 +6,4 @@ pub mod Slots
 pub mod Rings
 pub mod Pushes
 pub mod Loops
+pub mod Gathers

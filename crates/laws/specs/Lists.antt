@@ -36,3 +36,8 @@ frontAll cap (x ∷ xs) l = front cap x (frontAll cap xs l)
 -- a store, or none
 abbrev pub setIf : {A : Type 0} → Bool → List A → ℕ → A → List A
 setIf b l i x = pick b (set l i x) l
+
+-- those that pass, in order
+abbrev pub keeping : {A : Type 0} → (A → Bool) → List A → List A
+keeping p [] = []
+keeping p (x ∷ l) = pick (p x) (x ∷ keeping p l) (keeping p l)

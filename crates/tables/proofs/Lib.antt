@@ -1,0 +1,5 @@
+pub mod Blank
+pub mod Loaded
+pub mod Rows
+pub mod Sums
+pub mod Turns
