@@ -1,7 +1,9 @@
-pub mod View
-pub mod Settle
 pub mod Answers
-pub mod Runs
 pub mod Apply
+pub mod Replay
+pub mod Runs
 pub mod Send
+pub mod Settle
+pub mod Tables
 pub mod Take
+pub mod View

@@ -18,7 +18,8 @@ pub struct SendAnswer {
     pub state: ProducerState,
 }
 
-pub struct FlushAnswer {
+// Of a flush, a drain or a replay of what is pending.
+pub struct CountAnswer {
     pub answer: CountOutcome,
     pub state: ProducerState,
 }
@@ -71,7 +72,7 @@ impl ProducerState {
     }
 
     // The count of frames made, 0 or 1. As in the Rust the time of the call is not used.
-    pub fn flush_batch(mut self, publish_time: u64, _now: u64) -> FlushAnswer
+    pub fn flush_batch(mut self, publish_time: u64, _now: u64) -> CountAnswer
         ensures { λ r. ⌜ (view (r .state), toldCount (r .answer)) ≡ flushBatch «publish_time» (view self) ⌝ }
         ensures { λ r. ⌜ Kept (toldCount (r .answer)) self (r .state) ⌝ }
     {
@@ -85,7 +86,7 @@ impl ProducerState {
             let f = d.frame.frame;
             self.outbound[at] = f;
         }
-        FlushAnswer {
+        CountAnswer {
             answer: answer,
             state: self,
         }

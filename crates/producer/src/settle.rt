@@ -47,7 +47,7 @@ pub struct ErrorAnswer {
     pub state: ProducerState,
 }
 
-fn op_of(id: u64, mark: u8, publish: Publish) -> OpSend
+pub(crate) fn op_of(id: u64, mark: u8, publish: Publish) -> OpSend
     ensures { λ r. ⌜ r ≡ entryOf id mark publish ⌝ }
 {
     OpSend {
@@ -106,7 +106,7 @@ impl ProducerState {
         locate(&self.pending_ids, &self.pending_marks, head, len, id)
     }
 
-    fn op_at(self, place: usize) -> OpSend
+    pub(crate) fn op_at(self, place: usize) -> OpSend
         requires { ⌜ place < 256 ⌝ }
         ensures { λ r. ⌜ getD (view self .pending) place r ≡ r ⌝ }
     {
