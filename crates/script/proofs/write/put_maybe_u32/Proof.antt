@@ -1,0 +1,50 @@
+-- `script::write::put_maybe_u32`: its writes one after the other.
+use borrow.Author.Needs.{needs}
+use Rattle.script.proofs.Outputs.{next}
+use Rattle.script.proofs.write.put_maybe_u32.Statement.{statement}
+use Rattle.script.proofs.write.put_maybe_u32.Tie as tie
+
+enum-told : tie.Need-enum-told
+enum-told c = search needs
+
+put-u8-requires : tie.Need-put-u8-requires
+put-u8-requires c κs = search needs
+
+enum-known-v : tie.Need-enum-known-v
+enum-known-v c = search needs
+
+put-u8-requires-2 : tie.Need-put-u8-requires-2
+put-u8-requires-2 c κs = search needs
+
+cast-put-u32 : tie.Need-cast-put-u32
+cast-put-u32 c = search needs
+
+put-u32-requires : tie.Need-put-u32-requires
+put-u32-requires c κs = search needs
+
+same-length : tie.Need-same-length
+same-length c = search needs
+
+returns : tie.Need-returns
+returns c = search needs
+
+same-length-2 : tie.Need-same-length-2
+same-length-2 c = search needs
+
+returns-2 : tie.Need-returns-2
+returns-2 c = search next
+
+pub put-maybe-u32-spec : {M : Type 1} → statement M
+put-maybe-u32-spec =
+    tie.close
+    (tie.spec
+    enum-told
+    put-u8-requires
+    enum-known-v
+    put-u8-requires-2
+    cast-put-u32
+    put-u32-requires
+    same-length
+    returns
+    same-length-2
+    returns-2)
