@@ -291,7 +291,7 @@ fn call_query(
     }
 }
 
-pub fn call(
+pub(crate) fn call(
     s: ProducerState,
     script: &[u8],
     at: usize,

@@ -20,7 +20,7 @@ fn up_to(len: usize, at: usize, n: usize) -> usize
     if n <= len - at { at + n } else { len }
 }
 
-pub fn call_take(
+pub(crate) fn call_take(
     s: ProducerState,
     script: &[u8],
     at: usize,
