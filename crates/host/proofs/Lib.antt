@@ -1,1 +1,6 @@
+pub mod Fronts
+pub mod Lending
+pub mod Loops
+pub mod Plans
 pub mod Takes
+pub mod Takings

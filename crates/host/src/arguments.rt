@@ -2,9 +2,12 @@
 use core::send::Sending;
 use script::read::behind;
 use script::read::bool_at;
+use script::read::bytes_at;
 use script::read::i32_at;
+use script::read::lent_of;
 use script::read::maybe_id_data_at;
 use script::read::maybe_u64_at;
+use script::read::u32_at;
 use script::read::u64_at;
 use script::read::usize_at;
 use script::read::uuid_at;
@@ -49,6 +52,12 @@ pub fn sending_at(script: &[u8], at: usize, code: u8) -> Sending {
     }
 }
 
+// How much of the store a send is lent.
+pub fn lent_at(script: &[u8], at: usize, code: u8, store: &[u8]) -> usize {
+    let lent = lent_of(store, u64_at(script, behind(behind_message(at, code), 32)));
+    lent.len()
+}
+
 pub fn setting_at(script: &[u8], at: usize, code: u8) -> Setting {
     let value = behind(at, 1);
     match code {
@@ -61,6 +70,15 @@ pub fn setting_at(script: &[u8], at: usize, code: u8) -> Setting {
         0x17 => Setting::BatchingMaxPublishDelay(maybe_u64_at(script, value)),
         _ => Setting::BrokerReady(bool_at(script, value)),
     }
+}
+
+// The bytes of a name, behind their length.
+pub fn name_bytes_at(script: &[u8], at: usize) -> &[u8] {
+    bytes_at(
+        script,
+        behind(at, 5),
+        u32_at(script, behind(at, 1)) as usize,
+    )
 }
 
 pub fn receipt_at(script: &[u8], at: usize) -> CommandSendReceipt {

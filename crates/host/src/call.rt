@@ -1,6 +1,7 @@
 // One operation through the public methods, with the state by value.
 use crate::arguments::behind_message;
 use crate::arguments::error_at;
+use crate::arguments::name_bytes_at;
 use crate::arguments::receipt_at;
 use crate::arguments::sending_at;
 use crate::arguments::setting_at;
@@ -17,10 +18,8 @@ use script::answer::put_stats;
 use script::answer::put_status;
 use script::answer::put_yes;
 use script::read::behind;
-use script::read::bytes_at;
 use script::read::i32_at;
 use script::read::lent_of;
-use script::read::u32_at;
 use script::read::u64_at;
 use script::read::usize_at;
 use script::write::put_i32;
@@ -87,7 +86,7 @@ fn call_flush(
     }
 }
 
-fn put_receipt(
+pub(crate) fn put_receipt(
     out: &mut [u8],
     to: usize,
     code: u8,
@@ -129,7 +128,14 @@ fn call_receipt(
     }
 }
 
-fn put_error(out: &mut [u8], to: usize, code: u8, answer: Outcome, error: i32, op: OpSend) -> usize
+pub(crate) fn put_error(
+    out: &mut [u8],
+    to: usize,
+    code: u8,
+    answer: Outcome,
+    error: i32,
+    op: OpSend,
+) -> usize
     ensures { λ r. ⌜ Wrote to (now (out .entry)) (now (out .exit)) r ⌝ }
 {
     match answer {
@@ -190,12 +196,7 @@ fn call_name(
 ) -> Called
     ensures { λ r. ⌜ Wrote to (now (out .entry)) (now (out .exit)) (r .to) ⌝ }
 {
-    let name = bytes_at(
-        script,
-        behind(at, 5),
-        u32_at(script, behind(at, 1)) as usize,
-    );
-    let r = s.set_name(name);
+    let r = s.set_name(name_bytes_at(script, at));
     let answer = r.answer;
     let state = r.state;
     Called {
@@ -246,10 +247,7 @@ fn call_resend(s: ProducerState, code: u8, out: &mut [u8], to: usize) -> Called
     }
 }
 
-// The operations that are lent tables are not carried out.
-const NOT_CARRIED_OUT: u8 = 0xFF;
-
-fn put_len(out: &mut [u8], to: usize, code: u8, n: usize) -> usize
+pub(crate) fn put_len(out: &mut [u8], to: usize, code: u8, n: usize) -> usize
     ensures { λ r. ⌜ Wrote to (now (out .entry)) (now (out .exit)) r ⌝ }
 {
     let status = put_status(out, to, code, 0);
@@ -267,7 +265,6 @@ fn call_query(
     ensures { λ r. ⌜ Wrote to (now (out .entry)) (now (out .exit)) r ⌝ }
 {
     match code {
-        0x07..=0x0B => put_status(out, to, code, NOT_CARRIED_OUT),
         0x20 => put_deadline(out, to, code, s.next_send_deadline()),
         0x21 => put_deadline(out, to, code, s.next_batch_deadline()),
         0x22 => put_yes(

@@ -6,7 +6,7 @@ use rules::pending::locate;
 use script::answer::put_core;
 use script::answer::put_publish;
 use script::write::put_bool;
-use script::write::put_u32;
+use script::write::put_count32;
 use types::entry::Publish;
 ghost use Rattle.script.specs.Output.{Wrote};
 
@@ -26,7 +26,7 @@ fn put_scalars(s: ProducerState, out: &mut [u8], to: usize, n: usize) -> usize
     let head = s.core.rings.pending_head % 256;
     let front = s.pending[head];
     let scalars = put_core(out, to, CODE, c, front.enqueued_at);
-    put_u32(out, scalars, (n % 0x1_0000_0000) as u32)
+    put_count32(out, scalars, n)
 }
 
 fn put_entries(

@@ -2,8 +2,12 @@
 mod arguments;
 mod call;
 mod dump;
+mod in_place;
+mod lent;
+mod plan;
 pub mod run;
 mod take;
+mod taken;
 
 use crate::run::run_script;
 ghost use Rattle.script.specs.Output.{Wrote};

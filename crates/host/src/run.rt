@@ -1,5 +1,9 @@
 // A whole script.
 use crate::call::call;
+use crate::in_place::run_in_place;
+use crate::lent::call_lent;
+use crate::lent::is_lent;
+use crate::lent::no_entries;
 use producer::state::ProducerState;
 use rules::numbers::saturating_add;
 use script::answer::END;
@@ -33,11 +37,11 @@ fn fits(room: u64, len: usize, to: usize) -> bool {
 
 // Where a run stands: the code of the operation that is next and the place behind it, or that it has ended; and the place behind
 // what is written.
-struct Step {
-    ended: bool,
-    code: u8,
-    next: usize,
-    to: usize,
+pub(crate) struct Step {
+    pub ended: bool,
+    pub code: u8,
+    pub next: usize,
+    pub to: usize,
 }
 
 fn ending(out: &mut [u8], to: usize, kind: u8, offset: usize) -> Step
@@ -51,7 +55,7 @@ fn ending(out: &mut [u8], to: usize, kind: u8, offset: usize) -> Step
     }
 }
 
-fn next_step(script: &[u8], at: usize, out: &mut [u8], to: usize) -> Step
+pub(crate) fn next_step(script: &[u8], at: usize, out: &mut [u8], to: usize) -> Step
     ensures { λ r. ⌜ Steps at (length (now (script .entry))) (r .ended) (r .next) × Wrote to (now (out .entry)) (now (out .exit)) (r .to) ⌝ }
 {
     if script.len() <= at {
@@ -78,6 +82,7 @@ fn run_by_value(script: &[u8], store_len: usize, handle: u64, out: &mut [u8]) ->
 {
     let store = bytes_at(script, STORE, store_len);
     let mut s = ProducerState::new(ProducerHandle(handle));
+    let mut last = no_entries();
     let mut at = behind(STORE, store_len);
     let mut to: usize = 0;
     loop {
@@ -86,10 +91,20 @@ fn run_by_value(script: &[u8], store_len: usize, handle: u64, out: &mut [u8]) ->
         if step.ended {
             break;
         }
-        let r = call(s, script, at, step.code, store, out, to);
-        let state = r.state;
-        s = state;
-        to = r.to;
+        let code = step.code;
+        if is_lent(code) {
+            let r = call_lent(s, last, script, at, code, out, to);
+            let state = r.state;
+            let kept = r.last;
+            s = state;
+            last = kept;
+            to = r.to;
+        } else {
+            let r = call(s, script, at, code, store, out, to);
+            let state = r.state;
+            s = state;
+            to = r.to;
+        }
         at = step.next;
     }
     to
@@ -103,7 +118,11 @@ pub fn run_script(script: &[u8], out: &mut [u8]) -> usize
     }
     let head = head_of(script);
     if head.well_formed {
-        run_by_value(script, head.store_len, head.handle, out)
+        if head.in_place {
+            run_in_place(script, head.store_len, head.handle, out)
+        } else {
+            run_by_value(script, head.store_len, head.handle, out)
+        }
     } else {
         put_ending(out, 0, MALFORMED, 0)
     }

@@ -10,10 +10,10 @@ ghost use Prim.Native.Nat.{_≤_};
 ghost use lib.ListN.{length};
 ghost use Rattle.script.specs.Output.{Wrote};
 
-const CODE: u8 = 0x04;
+pub(crate) const CODE: u8 = 0x04;
 
 // A place `n` further on, or the last there is.
-fn up_to(len: usize, at: usize, n: usize) -> usize
+pub(crate) fn up_to(len: usize, at: usize, n: usize) -> usize
     requires { ⌜ at ≤ len ⌝ }
     ensures { λ r. ⌜ (at ≤ r) × (r ≤ len) ⌝ }
 {

@@ -269,10 +269,10 @@ pub fn put_entry(out: &mut [u8], at: usize, op: OpSend) -> usize
 }
 
 // The first `n` entries.
-pub fn put_entries(out: &mut [u8], at: usize, table: [OpSend; 256], n: usize) -> usize
+pub fn put_entries(out: &mut [u8], at: usize, table: [OpSend; 257], n: usize) -> usize
     ensures { λ r. ⌜ Wrote at (now (out .entry)) (now (out .exit)) r ⌝ }
 {
-    let count = at_most(n, 256);
+    let count = at_most(n, 257);
     let mut to = at;
     let mut i: usize = 0;
     while i < count {

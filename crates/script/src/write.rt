@@ -60,6 +60,13 @@ pub fn put_usize(out: &mut [u8], at: usize, v: usize) -> usize
     put_u64(out, at, v as u64)
 }
 
+// A count of entries, which has four bytes.
+pub fn put_count32(out: &mut [u8], at: usize, n: usize) -> usize
+    ensures { λ r. ⌜ Wrote at (now (out .entry)) (now (out .exit)) r ⌝ }
+{
+    put_u32(out, at, (n % 0x1_0000_0000) as u32)
+}
+
 pub fn put_i64(out: &mut [u8], at: usize, v: i64) -> usize
     ensures { λ r. ⌜ Wrote at (now (out .entry)) (now (out .exit)) r ⌝ }
 {

@@ -13,11 +13,8 @@ element-copy-out-front c = search needs
 put-core-requires : tie.Need-put-core-requires
 put-core-requires c κs = search needs
 
-cast-put-u32 : tie.Need-cast-put-u32
-cast-put-u32 c = search needs
-
-put-u32-requires : tie.Need-put-u32-requires
-put-u32-requires c κs = search needs
+put-count32-requires : tie.Need-put-count32-requires
+put-count32-requires c κs = search needs
 
 same-length : tie.Need-same-length
 same-length c = search needs
@@ -32,7 +29,6 @@ put-scalars-spec =
     mul-front
     element-copy-out-front
     put-core-requires
-    cast-put-u32
-    put-u32-requires
+    put-count32-requires
     same-length
     returns)

@@ -8,7 +8,7 @@ use Rattle.script.proofs.answer.put_entries.Statement.{statement}
 use Rattle.script.proofs.answer.put_entries.Tie as tie
 
 abbrev Inv-loop : tie.InvT-loop
-Inv-loop out₀ at n table count to₀ i₀ out to i = (count ≡ min n 256) × Wrote at out₀ out to
+Inv-loop out₀ at n table count to₀ i₀ out to i = (count ≡ min n 257) × Wrote at out₀ out to
 
 abbrev μ-loop : tie.MeasureT-loop
 μ-loop out₀ at n table count to₀ i₀ out to i = count - i
