@@ -23,6 +23,9 @@ pub enum Mood {
     Crowded,
     /// Entries time out and no frame is taken, so that batched messages pile up.
     Hoarding,
+    /// Sends, takes and receipts, as of a client that is well; tables are lent seldom.
+    #[cfg_attr(not(feature = "port"), expect(dead_code))]
+    Flowing,
 }
 
 /// What a random script remembers while it is written.
@@ -68,12 +71,27 @@ impl Walk<'_> {
         let mut choice = self.random.below(100);
         let goes_out = match self.mood {
             Mood::Even => false,
+            Mood::Flowing => return self.flowing(choice),
             Mood::Crowded => (40..82).contains(&choice),
             Mood::Hoarding => matches!(choice, 40..62 | 78..96),
         };
         if goes_out && !self.random.one_in(40) {
             choice = self.random.below(34);
         }
+        self.chosen(choice)
+    }
+
+    /// Most operations that are lent a table give way to those that go out.
+    fn flowing(&mut self, choice: u64) -> Operation {
+        let lent = (75..86).contains(&choice);
+        if lent && !self.random.one_in(32) {
+            let choice = 34 + self.random.below(41);
+            return self.chosen(choice);
+        }
+        self.chosen(choice)
+    }
+
+    fn chosen(&mut self, choice: u64) -> Operation {
         match choice {
             0..34 => self.send(),
             34..40 => Operation::FlushBatch {

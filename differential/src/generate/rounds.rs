@@ -1,0 +1,39 @@
+//! The scripts of a run of any length: those that need no chance, then rounds of random ones.
+
+use super::build::Case;
+use super::long::{self, Mood};
+use super::random::Random;
+use super::{Amounts, damaged_cases, long_cases};
+
+/// The scripts that need no chance.
+pub const FIXED: Amounts = Amounts {
+    long_scripts: 0,
+    damaged_scripts: 0,
+    ..Amounts::MILLION
+};
+
+/// The random scripts of one round, beside the flowing ones.
+const ROUND: Amounts = Amounts {
+    long_scripts: 12,
+    damaged_scripts: 24,
+    ..Amounts::MILLION
+};
+
+/// The flowing scripts of one round.
+const FLOWING: usize = 108;
+
+/// The calls that the long scripts of a round make at least: one of the twelve is four times as
+/// long as the others.
+pub const CALLS: u64 = ((ROUND.long_scripts + 3 + FLOWING) * ROUND.long_length) as u64;
+
+/// The random scripts of one round; each round of a seed has its own.
+pub fn cases(seed: u64, round: u64, each: &mut dyn FnMut(Case)) {
+    let seed = Random::new(Random::new(seed).next() ^ round).next();
+    long_cases(&ROUND, seed, each);
+    damaged_cases(&ROUND, seed, each);
+    let mut random = Random::new(seed.rotate_left(32));
+    for _ in 0..FLOWING {
+        let (length, output) = (ROUND.long_length, ROUND.long_output);
+        each(long::case(&mut random, Mood::Flowing, length, output));
+    }
+}
