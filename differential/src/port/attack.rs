@@ -36,6 +36,10 @@ struct Tally {
     by_value: u64,
     /// By the last record: end, malformed, no room; or nothing, in an output that is too short.
     endings: [u64; 4],
+    /// The bytes of all answers, and a sum of them: so every one of them is looked at, and two runs
+    /// can be compared.
+    bytes: u64,
+    sum: u64,
 }
 
 const ENDINGS: [(Ending, &str); 3] = [
@@ -121,6 +125,8 @@ impl Attack {
                 .map_err(|fault| format!("number {number}: {fault}"))?;
             tally.kinds[kind] += 1;
             tally.endings[ending] += 1;
+            tally.bytes += length as u64;
+            tally.sum = tally.sum.wrapping_add(sum_of(&output[..length]));
             match drive {
                 Drive::InPlace => tally.in_place += 1,
                 Drive::ByValue => tally.by_value += 1,
@@ -132,6 +138,13 @@ impl Attack {
 
 fn note(numbers: &File, thread: u64, number: u64) -> io::Result<()> {
     numbers.write_all_at(&number.to_le_bytes(), 8 * thread)
+}
+
+/// The FNV-1a sum, which depends on every byte.
+fn sum_of(bytes: &[u8]) -> u64 {
+    bytes.iter().fold(0xCBF2_9CE4_8422_2325, |sum, byte| {
+        (sum ^ u64::from(*byte)).wrapping_mul(0x100_0000_01B3)
+    })
 }
 
 fn shown(case: &Case) -> String {
@@ -194,6 +207,8 @@ impl Tally {
         sums.for_each(|(sum, count)| *sum += count);
         self.in_place += other.in_place;
         self.by_value += other.by_value;
+        self.bytes += other.bytes;
+        self.sum = self.sum.wrapping_add(other.sum);
     }
 
     fn print(&self) {
@@ -207,5 +222,6 @@ impl Tally {
         let endings = names.zip(self.endings);
         let endings: Vec<String> = endings.map(|(name, n)| format!("{name} {n}")).collect();
         say!("  endings   {}", endings.join(", "));
+        say!("  answers   {} bytes, sum {:016x}", self.bytes, self.sum);
     }
 }
