@@ -12,6 +12,7 @@ mod long;
 mod random;
 #[cfg(feature = "port")]
 pub mod rounds;
+mod wide;
 
 use build::{Case, OUTPUT};
 use long::Mood;

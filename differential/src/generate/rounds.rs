@@ -12,18 +12,19 @@ pub const FIXED: Amounts = Amounts {
     ..Amounts::MILLION
 };
 
-/// The random scripts of one round, beside the flowing ones.
+/// The random scripts of one round, beside the flowing and the wide ones.
 const ROUND: Amounts = Amounts {
     long_scripts: 12,
     damaged_scripts: 24,
     ..Amounts::MILLION
 };
 
-/// The flowing scripts of one round.
+/// The flowing scripts of one round, and the wide ones.
 const FLOWING: usize = 108;
+const WIDE: usize = 24;
 
-/// The calls that the long scripts of a round make at least: one of the twelve is four times as
-/// long as the others.
+/// The calls that a round makes at least: one of the twelve long scripts is four times as long as
+/// the others, and wide ones may run out of room.
 pub const CALLS: u64 = ((ROUND.long_scripts + 3 + FLOWING) * ROUND.long_length) as u64;
 
 /// The random scripts of one round; each round of a seed has its own.
@@ -32,8 +33,13 @@ pub fn cases(seed: u64, round: u64, each: &mut dyn FnMut(Case)) {
     long_cases(&ROUND, seed, each);
     damaged_cases(&ROUND, seed, each);
     let mut random = Random::new(seed.rotate_left(32));
-    for _ in 0..FLOWING {
+    for number in 0..FLOWING + WIDE {
+        let mood = if number < FLOWING {
+            Mood::Flowing
+        } else {
+            Mood::Wide
+        };
         let (length, output) = (ROUND.long_length, ROUND.long_output);
-        each(long::case(&mut random, Mood::Flowing, length, output));
+        each(long::case(&mut random, mood, length, output));
     }
 }
