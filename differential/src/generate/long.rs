@@ -16,6 +16,7 @@ const LETTERS: u64 = 100;
 
 /// What a random script makes of the queue.
 #[derive(Clone, Copy, PartialEq, Eq)]
+#[cfg_attr(not(feature = "port"), expect(dead_code))]
 pub enum Mood {
     /// About as much comes in as goes out.
     Even,
@@ -24,10 +25,8 @@ pub enum Mood {
     /// Entries time out and no frame is taken, so that batched messages pile up.
     Hoarding,
     /// Sends, takes and receipts, as of a client that is well; tables are lent seldom.
-    #[cfg_attr(not(feature = "port"), expect(dead_code))]
     Flowing,
     /// Large payloads, tables, clocks and delays (`wide`).
-    #[cfg_attr(not(feature = "port"), expect(dead_code))]
     Wide,
 }
 

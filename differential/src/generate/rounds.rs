@@ -24,7 +24,7 @@ const FLOWING: usize = 108;
 const WIDE: usize = 24;
 
 /// The calls that a round makes at least: one of the twelve long scripts is four times as long as
-/// the others, and wide ones may run out of room.
+/// the others, and the wide ones come on top.
 pub const CALLS: u64 = ((ROUND.long_scripts + 3 + FLOWING) * ROUND.long_length) as u64;
 
 /// The random scripts of one round; each round of a seed has its own.
