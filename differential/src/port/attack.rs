@@ -14,9 +14,6 @@ use crate::generate::build::Case;
 use crate::guard::{Edge, Guarded};
 use crate::run::{UNTOUCHED, first_touched};
 
-/// Where every thread notes the number of its script, for the case that the process ends there; a
-/// file for each process that began an attack.
-const NUMBERS: &str = concat!(env!("CARGO_MANIFEST_DIR"), "/target/attack-");
 /// One script in so many is driven by value.
 const BY_VALUE: u64 = 16;
 
@@ -59,13 +56,10 @@ impl Attack {
         } = self;
         let words = [count, seed, threads].map(|number| number.to_string());
         let status = child(&["attack-here", &words[0], &words[1], &words[2]])?;
-        let file = format!("{NUMBERS}{}", process::id());
-        let numbers = fs::read(&file).unwrap_or_default();
-        // Without it the next attack makes a new one.
-        let _ = fs::remove_file(&file);
         if status.success() {
             return Ok(());
         }
+        let numbers = fs::read(numbers_of(process::id())).unwrap_or_default();
         let mut text = format!("{status}; the last script of each thread:\n");
         for number in numbers
             .as_chunks()
@@ -85,7 +79,7 @@ impl Attack {
     /// Carries the attack out here.
     pub fn run_here(self) -> Result<(), String> {
         let begun = Instant::now();
-        let file = format!("{NUMBERS}{}", parent_id());
+        let file = numbers_of(parent_id());
         let numbers = File::create(&file).map_err(|error| format!("{file}: {error}"))?;
         let mut workers = Vec::new();
         for first in 0..self.threads {
@@ -98,6 +92,7 @@ impl Attack {
         for worker in workers {
             tally.add(&worker.join().map_err(|_| "a thread was ended")??);
         }
+        fs::remove_file(&file).map_err(|error| format!("{file}: {error}"))?;
         tally.print();
         let (seed, seconds) = (self.seed, begun.elapsed().as_secs_f64());
         say!("seed {seed}, {seconds:.0} s, nothing wrong");
@@ -134,6 +129,12 @@ impl Attack {
         }
         Ok(tally)
     }
+}
+
+/// Where every thread notes the number of its script, for the case that the process ends there: a
+/// file for each process that began an attack.
+fn numbers_of(process: u32) -> String {
+    format!("{}/target/attack-{process}", env!("CARGO_MANIFEST_DIR"))
 }
 
 fn note(numbers: &File, thread: u64, number: u64) -> io::Result<()> {
