@@ -18,6 +18,14 @@ pub enum Ending {
 
 /// Length of an ending record; every answer leaves this much room behind it.
 pub const ENDING: u64 = 9;
+
+/// Whether answers end where the Rust cannot stand for the port: from there on a host need not
+/// answer what the Rust does.
+pub fn ends_not_comparable(answers: &[u8]) -> bool {
+    let ending = answers.len().checked_sub(ENDING as usize);
+    ending.is_some_and(|at| answers[at] == Ending::NotComparable as u8)
+}
+
 /// No table has more entries than can be pending.
 const PENDING: u64 = 256;
 const ENTRY: u64 = 293;

@@ -7,7 +7,7 @@ use magnetar_proto::producer::{OpSend, OutboundFrame};
 use crate::answers::Dump;
 use crate::frames;
 use crate::operations::Transaction;
-use crate::oracle::Oracle;
+use crate::oracle::{Checks, Oracle};
 use crate::shadow::Entry;
 
 /// The derived `Debug` text is long: it is read for small states only.
@@ -45,7 +45,8 @@ impl Oracle {
             .iter()
             .map(|entry| u64::from(entry.frames()))
             .sum();
-        if replayed + shadow.waiting_frames() <= SMALL_STATE {
+        let small = replayed + shadow.waiting_frames() <= SMALL_STATE;
+        if small && self.checks == Checks::Whole {
             self.assert_same_private_fields();
         }
         let milliseconds = |delay: std::time::Duration| delay.as_millis() as u64;
@@ -125,6 +126,9 @@ impl Oracle {
             entry.frames() as usize,
             "an entry's frames"
         );
+        if self.checks == Checks::Light {
+            return;
+        }
         if let Some(sent) = &entry.replays {
             let wanted = frames::all(&self.store, self.rust.handle.0, sent);
             let wanted = wanted.expect("tested when the message came in");

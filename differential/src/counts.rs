@@ -131,11 +131,13 @@ impl fmt::Display for Counts {
         for (code, name) in CODES {
             let answers = self.answers.iter().filter(|((of, _), _)| *of == code);
             let refusals = self.refusals.iter().filter(|((of, _), _)| *of == code);
+            let counts = answers.clone().map(|(_, count)| count);
+            let calls: u64 = counts.chain(refusals.clone().map(|(_, count)| count)).sum();
             let answers = answers.map(|((_, kind), count)| format!("{kind} {count}"));
             let refusals = refusals.map(|((_, by), count)| format!("refused by {by}: {count}"));
             let all: Vec<String> = answers.chain(refusals).collect();
             if !all.is_empty() {
-                writeln!(f, "  {name:31} {}", all.join(", "))?;
+                writeln!(f, "  {name:31} {calls:9}: {}", all.join(", "))?;
             }
         }
         let by_number = (1..=12).map(|number| {

@@ -1,24 +1,43 @@
 //! Drives the unchanged Rust send queue by scripts of docs/SCRIPT.md.
 
+/// Prints a line; nobody has to read it to its end.
+macro_rules! say {
+    ($($text:tt)*) => {{
+        let _ = std::io::Write::write_fmt(
+            &mut std::io::stdout(),
+            format_args!("{}\n", format_args!($($text)*)),
+        );
+    }};
+}
+
 mod answers;
+#[cfg(any(feature = "port", test))]
+mod beside;
 mod bounds;
 mod compare;
 mod counts;
+#[cfg(any(feature = "port", test))]
+mod drive;
 mod frames;
 mod generate;
+#[cfg(any(feature = "port", test))]
+mod guard;
 mod operations;
 mod oracle;
+#[cfg(feature = "port")]
+mod port;
 mod recorded;
 mod run;
 mod script;
 mod shadow;
+#[cfg(any(feature = "port", test))]
+mod shrink;
 mod tables;
 #[cfg(test)]
 mod tests;
 mod wire;
 mod writer;
 
-use std::io::Write as _;
 use std::process::ExitCode;
 use std::time::Instant;
 use std::{env, fs};
@@ -35,13 +54,6 @@ const USAGE: &str = "usage: differential COMMAND
   check SAMPLE                     compares the recorded sample with the Rust, bit for bit
   frames SAMPLE FRAMES             every frame taken in the sample, encoded by prost";
 
-/// Prints a line; nobody has to read it to its end.
-macro_rules! say {
-    ($($text:tt)*) => {
-        let _ = writeln!(std::io::stdout(), $($text)*);
-    };
-}
-
 fn main() -> ExitCode {
     let words: Vec<String> = env::args().skip(1).collect();
     let words: Vec<&str> = words.iter().map(String::as_str).collect();
@@ -55,7 +67,7 @@ fn main() -> ExitCode {
         ["record", sample] => record(sample),
         ["check", sample] => check(sample),
         ["frames", sample, frames] => write_frames(sample, frames),
-        _ => Err(USAGE.to_owned()),
+        _ => with_port(&words),
     };
     match result {
         Ok(()) => ExitCode::SUCCESS,
@@ -64,6 +76,17 @@ fn main() -> ExitCode {
             ExitCode::FAILURE
         }
     }
+}
+
+#[cfg(feature = "port")]
+fn with_port(words: &[&str]) -> Result<(), String> {
+    let result = port::command(words);
+    result.unwrap_or_else(|| Err(format!("{USAGE}{}", port::USAGE)))
+}
+
+#[cfg(not(feature = "port"))]
+fn with_port(_: &[&str]) -> Result<(), String> {
+    Err(USAGE.to_owned())
 }
 
 /// Runs all classes and prints the counts; fails if something was never met.

@@ -47,10 +47,21 @@ pub struct Oracle {
     pub(crate) budget: Arc<MemoryLimitController>,
     /// The replay table of the last snapshot, with the Rust's own frames.
     pub(crate) snapshot: Vec<(Entry, Vec<OutboundFrame>)>,
+    pub(crate) checks: Checks,
+}
+
+/// How much the oracle compares the Rust with document 01 while it drives it.
+#[derive(Debug, Clone, Copy, Default, PartialEq, Eq)]
+pub enum Checks {
+    /// Also every frame, and what is private.
+    #[default]
+    Whole,
+    /// What an entry is beside its frames, and the counts.
+    Light,
 }
 
 impl Oracle {
-    pub fn new(handle: u64, store: &[u8]) -> Self {
+    pub fn new(handle: u64, store: &[u8], checks: Checks) -> Self {
         let mut rust = ProducerState::new(
             ProducerHandle(handle),
             String::new(),
@@ -65,6 +76,7 @@ impl Oracle {
             start: Instant::now(),
             budget: MemoryLimitController::new(u64::MAX, MemoryLimitPolicy::FailImmediately),
             snapshot: Vec::new(),
+            checks,
         }
     }
 
@@ -307,7 +319,9 @@ impl Oracle {
         let Some(frame) = self.rust.next_outbound_frame() else {
             return Answer::Refused(10);
         };
-        assert_same_frame(&frame, &self.expected_front());
+        if self.checks == Checks::Whole {
+            assert_same_frame(&frame, &self.expected_front());
+        }
         self.shadow.take();
         Answer::Frame(Box::new(frame))
     }

@@ -1,6 +1,6 @@
 //! The recorded sample: scripts with the answers of the Rust, in the form of docs/SCRIPT.md.
 
-use crate::answers::{ENDING, Ending};
+use crate::answers::ends_not_comparable;
 use crate::counts::Counts;
 use crate::generate::{Amounts, CLASSES};
 use crate::run::{Observer, answers_of};
@@ -40,12 +40,6 @@ pub fn make() -> (Vec<Record>, Counts) {
         });
     }
     (records, counts)
-}
-
-/// Such a script has no answers that a host must give.
-fn ends_not_comparable(answers: &[u8]) -> bool {
-    let ending = answers.len().checked_sub(ENDING as usize);
-    ending.is_some_and(|at| answers[at] == Ending::NotComparable as u8)
 }
 
 pub fn encode(records: &[Record]) -> Vec<u8> {

@@ -2,17 +2,21 @@
 //! against the writer of scripts.
 
 use crate::answers::{Answer, Dump};
+use crate::beside::{Beside, Host};
+use crate::drive::Drive;
 use crate::generate::build::{
-    LONG, flush, message, plain_send, receipt, send, send_at, take, text, time_out,
+    Builder, LONG, flush, message, plain_send, receipt, send, send_at, take, text, time_out,
 };
+use crate::guard::{Edge, Guarded};
 use crate::operations::{Operation, ReceiptId};
-use crate::oracle::Oracle;
+use crate::oracle::{Checks, Oracle};
 use crate::run::{Observer, answers_of};
 use crate::script::{read_head, read_operation};
+use crate::shrink::{describe, smallest};
 use crate::writer::Script;
 
 fn producer(store: &[u8], settings: &[Operation]) -> Oracle {
-    let mut oracle = Oracle::new(7, store);
+    let mut oracle = Oracle::new(7, store, Checks::Whole);
     for setting in settings {
         assert!(matches!(does(&mut oracle, setting), Answer::Done));
     }
@@ -206,4 +210,86 @@ fn example_of_the_page() {
     assert_eq!((script.len(), answers.len()), (265, 126));
     let found = answers_of(&script, 1 << 14, &mut Observer::default());
     assert_eq!(found, answers);
+}
+
+/// A host that answers as the Rust does, but for `stats` after a name was set.
+fn forgetful_host(script: &[u8], output: &mut [u8]) -> usize {
+    let answers = answers_of(script, output.len(), &mut Observer::default());
+    output[..answers.len()].copy_from_slice(&answers);
+    let operations = operations_of(script);
+    let named = |operation: &Operation| matches!(operation, Operation::SetName(_));
+    let asked = operations.last() == Some(&Operation::Stats);
+    if asked && operations.iter().any(named) {
+        output[answers.len() - 10] ^= 1;
+    }
+    answers.len()
+}
+
+fn operations_of(script: &[u8]) -> Vec<Operation> {
+    let mut operations = Vec::new();
+    let mut at = read_head(script).map_or(script.len(), |head| head.end);
+    while let Some((operation, next)) = read_operation(script, at) {
+        operations.push(operation);
+        at = next;
+    }
+    operations
+}
+
+#[test]
+fn a_difference_is_found_and_made_small() {
+    let mut builder = Builder::new(&text(20));
+    builder.send(message(9)).take().op(receipt(0));
+    let mut beside = Beside::new(forgetful_host, Drive::InPlace);
+    assert_eq!(beside.difference(&mut builder.end()), None);
+    builder
+        .op(Operation::SetName(b"name".to_vec()))
+        .batching(3, 10)
+        .send(message(5))
+        .op(flush())
+        .dump()
+        .op(Operation::Stats);
+    let mut case = builder.end();
+    assert!(beside.difference(&mut case).is_some());
+    let small = smallest(&case, forgetful_host, Drive::InPlace).expect("a difference");
+    let wanted = [Operation::SetName(vec![0; 4]), Operation::Stats];
+    assert_eq!(operations_of(&small.script), wanted);
+    assert!(describe(&case, forgetful_host, Drive::InPlace).contains("Stats"));
+}
+
+/// What the system says of the page at this address.
+fn access(address: usize) -> String {
+    let maps = std::fs::read_to_string("/proc/self/maps").expect("a list of mappings");
+    let hex = |text| usize::from_str_radix(text, 16).expect("an address");
+    let line = maps.lines().find(|line| {
+        let range = line
+            .split(' ')
+            .next()
+            .and_then(|range| range.split_once('-'));
+        range.is_some_and(|(from, to)| (hex(from)..hex(to)).contains(&address))
+    });
+    line.and_then(|line| line.split(' ').nth(1))
+        .unwrap_or("not mapped")
+        .to_owned()
+}
+
+#[test]
+fn what_lies_around_guarded_memory_is_forbidden() {
+    let mut guarded = Guarded::new(5_000).expect("memory");
+    let first = guarded.slice(Edge::First, 7).as_ptr().addr();
+    assert_eq!([access(first - 1), access(first)], ["---p", "rw-p"]);
+    let last = guarded.slice(Edge::Last, 7).as_ptr_range().end.addr();
+    assert_eq!([access(last - 1), access(last)], ["rw-p", "---p"]);
+}
+
+#[test]
+fn a_byte_behind_the_answers_is_found() {
+    let host: Host = |script, output| {
+        let answers = answers_of(script, output.len(), &mut Observer::default());
+        output[..answers.len()].copy_from_slice(&answers);
+        output[answers.len() + 1] = 0;
+        answers.len()
+    };
+    let mut case = Builder::new(&text(2)).send(message(1)).end();
+    let found = Beside::new(host, Drive::ByValue).difference(&mut case);
+    assert!(found.is_some_and(|text| text.ends_with("was written")));
 }

@@ -2,6 +2,7 @@
 
 use super::build::{Builder, Case};
 use super::random::Random;
+use super::wide;
 use crate::operations::{
     Kind, Message, Operation, Part, ReceiptId, Send, SourceId, TableEntry, Transaction,
 };
@@ -12,10 +13,10 @@ pub const COVERS: &str = "random sequences of all operations with random argumen
 
 /// Letters, in which any part is UTF-8, and then all byte values.
 const LETTERS: u64 = 100;
-const STORE: u64 = LETTERS + 256;
 
 /// What a random script makes of the queue.
 #[derive(Clone, Copy, PartialEq, Eq)]
+#[cfg_attr(not(feature = "port"), expect(dead_code))]
 pub enum Mood {
     /// About as much comes in as goes out.
     Even,
@@ -23,6 +24,10 @@ pub enum Mood {
     Crowded,
     /// Entries time out and no frame is taken, so that batched messages pile up.
     Hoarding,
+    /// Sends, takes and receipts, as of a client that is well; tables are lent seldom.
+    Flowing,
+    /// Large payloads, tables, clocks and delays (`wide`).
+    Wide,
 }
 
 /// What a random script remembers while it is written.
@@ -31,12 +36,17 @@ struct Walk<'a> {
     clock: u64,
     id: u64,
     mood: Mood,
+    /// The store's length.
+    store: u64,
 }
 
 /// A script of `length` operations.
 pub fn case(random: &mut Random, mood: Mood, length: usize, output: usize) -> Case {
     let mut store = super::build::text(LETTERS as usize);
-    store.extend(super::build::binary(256));
+    store.extend(super::build::binary(match mood {
+        Mood::Wide => wide::BINARY,
+        _ => 256,
+    }));
     let drive = random.below(2) as u8;
     let handle = random.next();
     let mut builder = Builder::with_handle(drive, handle, &store);
@@ -45,6 +55,7 @@ pub fn case(random: &mut Random, mood: Mood, length: usize, output: usize) -> Ca
         clock: 1_000,
         id: 0,
         mood,
+        store: store.len() as u64,
     };
     let batching = walk.random.one_in(2);
     builder.op(Operation::SetBatchingEnabled(batching));
@@ -68,12 +79,28 @@ impl Walk<'_> {
         let mut choice = self.random.below(100);
         let goes_out = match self.mood {
             Mood::Even => false,
+            Mood::Flowing => return self.flowing(choice, 32),
+            Mood::Wide => return self.flowing(choice, 4),
             Mood::Crowded => (40..82).contains(&choice),
             Mood::Hoarding => matches!(choice, 40..62 | 78..96),
         };
         if goes_out && !self.random.one_in(40) {
             choice = self.random.below(34);
         }
+        self.chosen(choice)
+    }
+
+    /// Most operations that are lent a table give way to those that go out: one in so many stays.
+    fn flowing(&mut self, choice: u64, stays: u64) -> Operation {
+        let lent = (75..86).contains(&choice);
+        if lent && !self.random.one_in(stays) {
+            let choice = 34 + self.random.below(41);
+            return self.chosen(choice);
+        }
+        self.chosen(choice)
+    }
+
+    fn chosen(&mut self, choice: u64) -> Operation {
         match choice {
             0..34 => self.send(),
             34..40 => Operation::FlushBatch {
@@ -81,9 +108,12 @@ impl Walk<'_> {
                 now: self.now(),
             },
             40..62 => Operation::NextOutboundFrame {
-                buffer: self
-                    .random
-                    .pick(&[0, 1, 8, 4_096, 4_096, 4_096, 4_096, 4_096]),
+                buffer: match self.mood {
+                    Mood::Wide => self.random.pick(&wide::BUFFERS),
+                    _ => self
+                        .random
+                        .pick(&[0, 1, 8, 4_096, 4_096, 4_096, 4_096, 4_096]),
+                },
                 lent_store: self.lent(),
             },
             62..71 => Operation::ApplyReceipt {
@@ -128,6 +158,7 @@ impl Walk<'_> {
                 self.id = self.id.saturating_sub(self.random.below(6));
                 Operation::SetInitialSequenceId(self.id)
             }
+            2 if self.mood == Mood::Wide => Operation::SetName(wide::name(self.random)),
             2 => {
                 let length = self.random.pick(&[0, 1, 9, 63, 64, 65]);
                 Operation::SetName(super::build::text(length))
@@ -137,10 +168,8 @@ impl Walk<'_> {
             6 => Operation::SetMaxMessagesInBatch(self.random.pick(&[0, 1, 2, 3, 7, 128, 129])),
             7 | 8 => Operation::SetBatchingEnabled(!self.random.one_in(3)),
             9 => Operation::SetChunkingEnabled(!self.random.one_in(3)),
-            10 => Operation::SetSendTimeout(self.random.maybe(|random| random.below(60))),
-            11 => {
-                Operation::SetBatchingMaxPublishDelay(self.random.maybe(|random| random.below(60)))
-            }
+            10 => Operation::SetSendTimeout(self.delay()),
+            11 => Operation::SetBatchingMaxPublishDelay(self.delay()),
             12 => Operation::SetBrokerReady(self.random.one_in(2)),
             _ if self.random.one_in(40) => Operation::Close,
             _ => Operation::SetBatchingEnabled(true),
@@ -183,8 +212,11 @@ impl Walk<'_> {
     }
 
     pub fn message(&mut self) -> Message {
-        let length = self.random.pick(&[0, 1, 5, 19, 20, 21, 40, 64, 130]);
-        let start = self.random.below(STORE - length + 1);
+        let length = match self.mood {
+            Mood::Wide => self.random.pick(&wide::PAYLOADS),
+            _ => self.random.pick(&[0, 1, 5, 19, 20, 21, 40, 64, 130]),
+        };
+        let start = self.random.below(self.store - length + 1);
         let plain = self.random.one_in(3);
         let mut message = Message {
             payload: Part { start, length },
@@ -194,9 +226,13 @@ impl Walk<'_> {
         if plain {
             return message;
         }
+        let bytes_part = match self.mood {
+            Mood::Wide => wide::part,
+            _ => text_part,
+        };
         message.partition_key = self.random.maybe(text_part);
-        message.ordering_key = self.random.maybe(text_part);
-        message.schema_version = self.random.maybe(text_part);
+        message.ordering_key = self.random.maybe(bytes_part);
+        message.schema_version = self.random.maybe(bytes_part);
         message.name = self.random.maybe(text_part).unwrap_or_default();
         message.event_time = self.random.maybe(Random::next);
         message.null_value = self.random.maybe(|random| random.one_in(2));
@@ -221,13 +257,19 @@ impl Walk<'_> {
     }
 
     fn entries(&mut self) -> Vec<TableEntry> {
-        let count = self.random.below(4);
+        let count = match self.mood {
+            Mood::Wide => self.random.pick(&wide::TABLES),
+            _ => self.random.below(4),
+        };
         (0..count).map(|_| self.entry()).collect()
     }
 
     fn entry(&mut self) -> TableEntry {
         let message = self.message();
-        let chunk_size = self.random.pick(&[0, 1, 20, 64, 200]);
+        let (chunk_size, wrong_every) = match self.mood {
+            Mood::Wide => (self.random.pick(&wide::CHUNKS), wide::WRONG_CHUNKS),
+            _ => (self.random.pick(&[0, 1, 20, 64, 200]), 8),
+        };
         let count = match chunk_size {
             0 => 1,
             size => message.payload.length.div_ceil(size.into()).max(1) as u32,
@@ -241,7 +283,7 @@ impl Walk<'_> {
                 .random
                 .pick(&[Kind::Batched, Kind::Single, Kind::Chunked]),
             chunk_size,
-            chunk_count: if self.random.one_in(8) {
+            chunk_count: if self.random.one_in(wrong_every) {
                 count + 1
             } else {
                 count
@@ -256,6 +298,9 @@ impl Walk<'_> {
 
     /// Forward mostly, sometimes back.
     fn now(&mut self) -> u64 {
+        if self.mood == Mood::Wide && self.random.one_in(12) {
+            self.clock = self.random.pick(&wide::CLOCKS);
+        }
         let step = self.random.below(20);
         self.clock = if self.random.one_in(6) {
             self.clock.saturating_sub(3 * step)
@@ -269,7 +314,17 @@ impl Walk<'_> {
         self.id.wrapping_sub(self.random.below(12))
     }
 
+    fn delay(&mut self) -> Option<u64> {
+        match self.mood {
+            Mood::Wide => self.random.maybe(|random| random.pick(&wide::DELAYS)),
+            _ => self.random.maybe(|random| random.below(60)),
+        }
+    }
+
     fn size(&mut self) -> u64 {
+        if self.mood == Mood::Wide {
+            return self.random.pick(&wide::SIZES);
+        }
         self.random.pick(&[0, 1, 20, 21, 60, 100, 5_242_880])
     }
 
@@ -284,9 +339,9 @@ impl Walk<'_> {
 
     fn lent(&mut self) -> u64 {
         if self.random.one_in(12) {
-            self.random.below(STORE + 2)
+            self.random.below(self.store + 2)
         } else {
-            STORE
+            self.store
         }
     }
 }

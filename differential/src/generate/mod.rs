@@ -1,5 +1,7 @@
 //! Scripts by the thousand, from a seed.
 
+#[cfg(feature = "port")]
+pub mod attacks;
 pub mod build;
 mod damaged;
 mod edges;
@@ -8,6 +10,9 @@ mod full;
 mod limits;
 mod long;
 mod random;
+#[cfg(feature = "port")]
+pub mod rounds;
+mod wide;
 
 use build::{Case, OUTPUT};
 use long::Mood;
@@ -81,18 +86,7 @@ pub const CLASSES: [Class; 6] = [
     Class {
         name: "long",
         covers: long::COVERS,
-        cases: |amounts, seed, each| {
-            let mut random = Random::new(seed);
-            for number in 0..amounts.long_scripts {
-                let (mood, times) = match number % 12 {
-                    0 => (Mood::Hoarding, 4),
-                    1..5 => (Mood::Crowded, 1),
-                    _ => (Mood::Even, 1),
-                };
-                let length = times * amounts.long_length;
-                each(long::case(&mut random, mood, length, amounts.long_output));
-            }
-        },
+        cases: long_cases,
     },
     Class {
         name: "limits",
@@ -119,11 +113,28 @@ pub const CLASSES: [Class; 6] = [
         covers: damaged::COVERS,
         cases: |amounts, seed, each| {
             damaged::fixed_cases(amounts.damaged_step, each);
-            let mut random = Random::new(!seed);
-            for _ in 0..amounts.damaged_scripts {
-                let length = 1 + random.below(8) as usize;
-                each(damaged::random_case(&mut random, length));
-            }
+            damaged_cases(amounts, seed, each);
         },
     },
 ];
+
+fn long_cases(amounts: &Amounts, seed: u64, each: &mut dyn FnMut(Case)) {
+    let mut random = Random::new(seed);
+    for number in 0..amounts.long_scripts {
+        let (mood, times) = match number % 12 {
+            0 => (Mood::Hoarding, 4),
+            1..5 => (Mood::Crowded, 1),
+            _ => (Mood::Even, 1),
+        };
+        let length = times * amounts.long_length;
+        each(long::case(&mut random, mood, length, amounts.long_output));
+    }
+}
+
+fn damaged_cases(amounts: &Amounts, seed: u64, each: &mut dyn FnMut(Case)) {
+    let mut random = Random::new(!seed);
+    for _ in 0..amounts.damaged_scripts {
+        let length = 1 + random.below(8) as usize;
+        each(damaged::random_case(&mut random, length));
+    }
+}
