@@ -1,11 +1,10 @@
 -- What the plans of settings answer.
 use Prim.Native.Nat.{ℕ}
-use mathlib.Core.Bool.{true}
 use mathlib.Core.List.{List}
 use lib.Dec.{leb}
 use lib.ListN.{length}
 use Rattle.laws.specs.Choice.{pick}
-use Rattle.queue.specs.Settings.{allowed, changed, nameFrom, withName, withSwitches, switchesOf}
+use Rattle.queue.specs.Settings.{allowed, changed, closed, nameFrom, withName}
 use Rattle.types.specs.declared.answer.Outcome.the-variants.{Done, Refused}
 use Rattle.types.specs.declared.error.ProducerError.the-variants.{SettingOverBound}
 use Rattle.types.specs.declared.settings.ProducerSettings.{ProducerSettings}
@@ -27,6 +26,4 @@ abbrev pub namePlanned : List ℕ → Core → SetPlan
 namePlanned name c = pick (leb (length name) 64) (setTo (withName (nameFrom name) (c .settings)) c) (refused c)
 
 abbrev pub closedCore : Core → Core
-closedCore c =
-    let w = c .settings .switches in
-    coreSettings (withSwitches (switchesOf (w .«batching_enabled») (w .«chunking_enabled») (w .«broker_ready») true) (c .settings)) c
+closedCore c = coreSettings (closed (c .settings)) c

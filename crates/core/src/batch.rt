@@ -6,12 +6,11 @@ use crate::delta::FlushDelta;
 use crate::delta::Pushed;
 use crate::delta::no_frame;
 use crate::state::Core;
+use rules::batch::can_add;
 use rules::batch::is_batchable;
 use rules::batch::makes_frame;
 use rules::batch::too_many;
 use rules::blank::no_message;
-use rules::numbers::message_count;
-use rules::numbers::saturating_add;
 use types::answer::CountOutcome;
 use types::batch::BatchContainer;
 use types::error::ProducerError;
@@ -21,18 +20,12 @@ use types::frame::FrameRecord;
 use types::message::OutgoingMessage;
 
 impl Core {
-    // Batching is on, the producer is open, and neither the count nor the sum of payloads passes its limit.
     pub fn can_add_to_batch(self, payload_size: usize, num_messages: i32) -> bool
         ensures { λ r. ⌜ r ≡ canAddToBatch (self .settings) (self .batch) «payload_size» «num_messages» ⌝ }
     {
-        let switches = self.settings.switches;
-        let limits = self.settings.limits;
-        let count = saturating_add(self.batch.len, message_count(num_messages));
-        let size = saturating_add(self.batch.current_size_bytes, payload_size);
-        switches.batching_enabled
-            & !switches.closed
-            & (count <= limits.max_messages_in_batch)
-            & (size <= limits.max_batch_size_bytes)
+        let settings = self.settings;
+        let batch = self.batch;
+        can_add(settings, batch, payload_size, num_messages)
     }
 
     pub fn may_join(self, m: OutgoingMessage) -> bool

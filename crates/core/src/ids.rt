@@ -4,9 +4,8 @@ ghost use Rattle.core.specs.Ids.{withInitialId, sendDeadlineOf, batchDea
 use crate::state::Core;
 use rules::deadline::after;
 use rules::deadline::unless_none;
+use rules::stats::initial_ids;
 use types::optional::MaybeU64;
-use types::signed::saturating_sub_one;
-use types::signed::signed_of;
 
 impl Core {
     // Of the front entry, which was sent at `enqueued_at`.
@@ -33,13 +32,8 @@ impl Core {
     pub fn set_initial_sequence_id(mut self, next: u64) -> Core
         ensures { λ r. ⌜ r ≡ withInitialId next self ⌝ }
     {
-        let mut ids = self.ids;
-        ids.next_sequence_id = next;
-        if 0 < next {
-            let before = saturating_sub_one(signed_of(next));
-            ids.last_sequence_id_pushed = before;
-            ids.last_sequence_id_published = before;
-        }
+        let before = self.ids;
+        let ids = initial_ids(before, next);
         self.ids = ids;
         self
     }

@@ -3,6 +3,7 @@ ghost use mathlib.Core.Path.{_≡_};
 ghost use Rattle.core.specs.Settings.{setPlanned, namePlanned, closedCore};
 use crate::state::Core;
 use rules::settings::allows;
+use rules::settings::closed_settings;
 use rules::settings::name_from;
 use rules::settings::with_setting;
 use types::answer::Outcome;
@@ -58,7 +59,9 @@ impl Core {
     pub fn close(mut self) -> Core
         ensures { λ r. ⌜ r ≡ closedCore self ⌝ }
     {
-        self.settings.switches.closed = true;
+        let t = self.settings;
+        let settings = closed_settings(t);
+        self.settings = settings;
         self
     }
 }

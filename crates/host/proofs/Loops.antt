@@ -4,7 +4,7 @@ use native.Mathlib.Omega.{arith}
 use Prim.Native.Nat.{ℕ, _-_, _≤_, _<_}
 use mathlib.Core.Bool.{Bool, true, false}
 use mathlib.Core.List.{List}
-use mathlib.Core.Path.{_≡_, ap, sym, subst, _∙_}
+use mathlib.Core.Path.{_≡_, sym, subst, _∙_}
 use lib.ListN.{length, set, length-set, length-map}
 use mir.Val.{Val}
 use denote.Laws.{Is}
@@ -13,8 +13,6 @@ use Rattle.core.specs.declared.state.Core.{Core}
 use Rattle.core.specs.declared.delta.SendDelta.{SendDelta}
 use Rattle.core.specs.declared.send.Sending.{Sending}
 use Rattle.core.specs.Send.{planned}
-use Rattle.rules.specs.Pending.{clearedAll}
-use Rattle.rules.proofs.Keys.{length-cleared}
 use Rattle.producer.specs.Apply.{InRange}
 use Rattle.producer.specs.declared.state.ProducerState.{ProducerState}
 use Rattle.producer.proofs.Sends.{in-range}
@@ -59,6 +57,6 @@ alike e k = subst Keys (sym e) k
 pub kept : {is ms : List ℕ} (i v w : ℕ) → Keyed is ms → Keyed (set is i v) (set ms i w)
 kept {is} {ms} i v w k = record { ids = length-set is i v ∙ k .ids; marks = length-set ms i w ∙ k .marks }
 
--- marks are cleared
-pub unmarked : {is ms ns : List ℕ} (id : ℕ) → ns ≡ clearedAll id is ms → Keyed is ms → Keyed is ns
-unmarked {is} {ms} id e k = record { ids = k .ids; marks = ap length e ∙ length-cleared id is ms (k .ids ∙ sym (k .marks)) ∙ k .marks }
+-- a mark alone is stored
+pub marked : {is ms : List ℕ} (i w : ℕ) → Keyed is ms → Keyed is (set ms i w)
+marked {is} {ms} i w k = record { ids = k .ids; marks = length-set ms i w ∙ k .marks }

@@ -86,7 +86,7 @@ fn call_flush(
     }
 }
 
-pub(crate) fn put_receipt(
+fn put_receipt(
     out: &mut [u8],
     to: usize,
     code: u8,
@@ -128,14 +128,7 @@ fn call_receipt(
     }
 }
 
-pub(crate) fn put_error(
-    out: &mut [u8],
-    to: usize,
-    code: u8,
-    answer: Outcome,
-    error: i32,
-    op: OpSend,
-) -> usize
+fn put_error(out: &mut [u8], to: usize, code: u8, answer: Outcome, error: i32, op: OpSend) -> usize
     ensures { λ r. ⌜ Wrote to (now (out .entry)) (now (out .exit)) r ⌝ }
 {
     match answer {

@@ -6,7 +6,8 @@ use crate::call::call;
 use crate::lent::call_lent;
 use crate::lent::no_entries;
 use crate::plan::plan;
-use crate::plan::plan_settle;
+use crate::plan::put_settled;
+use crate::plan::settled;
 use crate::run::next_step;
 use crate::taken::take_batch;
 use crate::taken::take_message;
@@ -16,12 +17,14 @@ use rules::numbers::at_most;
 use rules::numbers::saturating_sub;
 use rules::pending::Found;
 use rules::pending::locate;
-use rules::pending::unmark;
 use script::answer::put_decision;
+use script::answer::put_publish;
+use script::answer::put_refusal;
 use script::operation::STORE;
 use script::read::behind;
 use script::read::bytes_at;
 use script::read::u64_at;
+use types::error::ProducerError;
 use types::types::ProducerHandle;
 ghost use Prim.Native.Nat.{_<_};
 ghost use Rattle.script.specs.Output.{Wrote};
@@ -54,13 +57,6 @@ fn slot(head: usize, i: usize) -> usize
     ensures { λ r. ⌜ r < 256 ⌝ }
 {
     (head % 256 + i % 256) % 256
-}
-
-fn place(found: Found) -> usize {
-    match found {
-        Found::At(i) => i,
-        Found::Nothing => 0,
-    }
 }
 
 pub(crate) fn run_in_place(script: &[u8], store_len: usize, handle: u64, out: &mut [u8]) -> usize
@@ -138,17 +134,25 @@ pub(crate) fn run_in_place(script: &[u8], store_len: usize, handle: u64, out: &m
                 let head = s.core.rings.pending_head;
                 let len = s.core.rings.pending_len;
                 let found = locate(&s.pending_ids, &s.pending_marks, head, len, id);
-                let i = place(found);
-                let from = slot(head, i);
-                let publish = s.pending[from];
-                let c = s.core;
-                let p = plan_settle(c, found, publish, script, at, code, out, to);
                 match found {
-                    Found::At(_) => {
-                        let ids = s.pending_ids;
-                        unmark(&mut s.pending_marks, ids, id);
+                    Found::At(i) => {
+                        let first = slot(head, i);
+                        let publish = s.pending[first];
+                        let told = put_settled(script, at, code, out, to);
+                        to = put_publish(out, told, id, publish);
+                        // No entry in front of this one bears the id.
+                        let n = at_most(len, 256);
+                        let mut k = i;
+                        while k < n {
+                            let here = slot(head, k);
+                            let entry = s.pending_ids[here];
+                            if entry == id {
+                                s.pending_marks[here] = 0;
+                            }
+                            k += 1;
+                        }
                         if 0 < i {
-                            let rearmost = saturating_sub(at_most(len, 256), 1);
+                            let rearmost = saturating_sub(n, 1);
                             let mut j = i;
                             while j < rearmost {
                                 let source = slot(head, j + 1);
@@ -162,12 +166,14 @@ pub(crate) fn run_in_place(script: &[u8], store_len: usize, handle: u64, out: &m
                                 j += 1;
                             }
                         }
+                        let c = s.core;
+                        let core = settled(c, i, code, id);
+                        s.core = core;
                     }
-                    Found::Nothing => {}
+                    Found::Nothing => {
+                        to = put_refusal(out, to, code, ProducerError::NotAnswerable);
+                    }
                 }
-                let core = p.core;
-                s.core = core;
-                to = p.to;
             }
             Drive::Scalars => {
                 let front_at = s.core.rings.pending_head % 256;

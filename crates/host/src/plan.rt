@@ -2,15 +2,12 @@
 // the scalars. The same plans as those of the public methods.
 use crate::arguments::name_bytes_at;
 use crate::arguments::setting_at;
-use crate::call::put_error;
 use crate::call::put_len;
-use crate::call::put_receipt;
 use core::delta::FramePut;
 use core::delta::no_frame;
 use core::state::Core;
 use rules::deadline::elapsed;
-use rules::numbers::at_most;
-use rules::pending::Found;
+use rules::stats::stats_of;
 use script::answer::put_count;
 use script::answer::put_deadline;
 use script::answer::put_outcome;
@@ -22,13 +19,10 @@ use script::read::i32_at;
 use script::read::maybe_id_data_at;
 use script::read::u64_at;
 use script::read::usize_at;
+use script::write::put_i32;
+use script::write::put_message_id;
 use types::answer::Outcome;
-use types::entry::OpSend;
-use types::entry::Publish;
-use types::error::ProducerError;
-use types::stats::ProducerStats;
 use types::types::MessageId;
-use types::types::SequenceId;
 ghost use mathlib.Core.Path.{_≡_};
 ghost use Prim.Native.Nat.{_<_};
 ghost use Rattle.script.specs.Output.{Wrote};
@@ -85,15 +79,6 @@ fn plan_set(c: Core, script: &[u8], at: usize, code: u8, out: &mut [u8], to: usi
     scalars(core, put_outcome(out, to, code, answer))
 }
 
-fn stats_of(c: Core) -> ProducerStats {
-    let counters = c.counters;
-    let n = at_most(c.rings.pending_len, 256);
-    ProducerStats {
-        counters: counters,
-        pending_queue_size: n as u64,
-    }
-}
-
 // `enqueued_at` is that of the front entry.
 fn plan_query(
     c: Core,
@@ -125,7 +110,10 @@ fn plan_query(
             ),
         ),
         0x24 => put_len(out, to, code, c.rings.waiting),
-        _ => put_stats(out, to, code, stats_of(c)),
+        _ => {
+            let counters = c.counters;
+            put_stats(out, to, code, stats_of(counters, c.rings.pending_len))
+        }
     }
 }
 
@@ -155,54 +143,26 @@ pub(crate) fn plan(
 
 // ---- receipts and errors ----
 
-fn settled(c: Core, found: Found, code: u8, id: u64) -> Core {
-    match found {
-        Found::At(i) => {
-            let left = c.without_entry(i);
-            if code == 0x05 {
-                left.published(Outcome::Done, id)
-            } else {
-                left
-            }
-        }
-        Found::Nothing => c,
+// The scalars once the entry at a place has left.
+pub(crate) fn settled(c: Core, place: usize, code: u8, id: u64) -> Core {
+    let left = c.without_entry(place);
+    if code == 0x05 {
+        left.published(Outcome::Done, id)
+    } else {
+        left
     }
 }
 
-fn answer_to(found: Found) -> Outcome {
-    match found {
-        Found::At(_) => Outcome::Done,
-        Found::Nothing => Outcome::Refused(ProducerError::NotAnswerable),
-    }
-}
-
-// The scalars once the entry at the place found has left, and the answer. `publish` is what that entry sent.
-pub(crate) fn plan_settle(
-    c: Core,
-    found: Found,
-    publish: Publish,
-    script: &[u8],
-    at: usize,
-    code: u8,
-    out: &mut [u8],
-    to: usize,
-) -> Planned
-    ensures { λ r. ⌜ Plans to (now (out .entry)) (now (out .exit)) r ⌝ }
+// What an answer has in front of the entry that left: the message id of a receipt, or the error's code.
+pub(crate) fn put_settled(script: &[u8], at: usize, code: u8, out: &mut [u8], to: usize) -> usize
+    ensures { λ r. ⌜ Wrote to (now (out .entry)) (now (out .exit)) r ⌝ }
 {
-    let id = u64_at(script, behind(at, 9));
-    let core = settled(c, found, code, id);
-    let answer = answer_to(found);
-    let op = OpSend {
-        sequence_id: SequenceId(id),
-        answerable: true,
-        publish: publish,
-    };
+    let status = put_status(out, to, code, 0);
     if code == 0x05 {
         let data = maybe_id_data_at(script, behind(at, 17));
         let message_id = MessageId::of_receipt(data);
-        scalars(core, put_receipt(out, to, code, answer, message_id, op))
+        put_message_id(out, status, message_id)
     } else {
-        let error = i32_at(script, behind(at, 17));
-        scalars(core, put_error(out, to, code, answer, error, op))
+        put_i32(out, status, i32_at(script, behind(at, 17)))
     }
 }

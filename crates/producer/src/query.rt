@@ -6,7 +6,7 @@ ghost use Rattle.queue.specs.Queries.{mayAdd, outboundLen, stats};
 ghost use Rattle.producer.specs.View.{view};
 use crate::state::ProducerState;
 use rules::deadline::elapsed;
-use rules::numbers::at_most;
+use rules::stats::stats_of;
 use types::optional::MaybeU64;
 use types::stats::ProducerStats;
 
@@ -54,10 +54,6 @@ impl ProducerState {
         ensures { λ r. ⌜ r ≡ stats (view self) ⌝ }
     {
         let counters = self.core.counters;
-        let n = at_most(self.core.rings.pending_len, 256);
-        ProducerStats {
-            counters: counters,
-            pending_queue_size: n as u64,
-        }
+        stats_of(counters, self.core.rings.pending_len)
     }
 }

@@ -75,7 +75,8 @@ unfoldable pub setName : List ℕ → Queue → Outcome (Unit {0})
 setName bytes q = pick (leb (length bytes) 64) (withSettings (withName (nameFrom bytes) (q .settings)) q, done tt) (refuse 8 q)
 
 -- for good: no call opens it again
+abbrev pub closed : ProducerSettings → ProducerSettings
+closed t = let w = t .switches in withSwitches (switchesOf (w .«batching_enabled») (w .«chunking_enabled») (w .«broker_ready») true) t
+
 unfoldable pub close : Queue → Queue
-close q =
-    let w = q .settings .switches in
-    withSettings (withSwitches (switchesOf (w .«batching_enabled») (w .«chunking_enabled») (w .«broker_ready») true) (q .settings)) q
+close q = withSettings (closed (q .settings)) q

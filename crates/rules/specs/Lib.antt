@@ -3,3 +3,4 @@ pub mod Chunks
 pub mod Deadline
 pub mod Pending
 pub mod Rings
+pub mod Stats

@@ -2,8 +2,9 @@
 ghost use mathlib.Core.Path.{_≡_};
 ghost use Prim.Native.Nat.{_+_};
 ghost use lib.Dec.{ltb};
-ghost use Rattle.queue.specs.Batch.{noSource, plain, batchable, sameTxn, singleOf, grown};
+ghost use Rattle.queue.specs.Batch.{noSource, plain, batchable, canAddToBatch, sameTxn, singleOf, grown};
 ghost use Rattle.rules.specs.Batch.{makesFrame};
+use crate::numbers::message_count;
 use crate::numbers::saturating_add;
 use crate::rings::Rings;
 use types::answer::CountOutcome;
@@ -11,6 +12,7 @@ use types::batch::BatchContainer;
 use types::message::OutgoingMessage;
 use types::message::SingleMessage;
 use types::optional::MaybeI32;
+use types::settings::ProducerSettings;
 use types::txn::MaybeTxnId;
 use types::types::MaybeMessageId;
 use types::types::SequenceId;
@@ -42,6 +44,25 @@ pub fn is_batchable(m: OutgoingMessage) -> bool
     let id = m.source_message_id;
     let code = m.compression;
     no_source(id) & is_plain(code)
+}
+
+// Batching is on, the producer is open, and neither the count nor the sum of payloads passes its limit.
+pub fn can_add(
+    t: ProducerSettings,
+    b: BatchContainer,
+    payload_size: usize,
+    num_messages: i32,
+) -> bool
+    ensures { λ r. ⌜ r ≡ canAddToBatch t b «payload_size» «num_messages» ⌝ }
+{
+    let switches = t.switches;
+    let limits = t.limits;
+    let count = saturating_add(b.len, message_count(num_messages));
+    let size = saturating_add(b.current_size_bytes, payload_size);
+    switches.batching_enabled
+        & !switches.closed
+        & (count <= limits.max_messages_in_batch)
+        & (size <= limits.max_batch_size_bytes)
 }
 
 // Having no transaction differs from having one.

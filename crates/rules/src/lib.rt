@@ -9,4 +9,5 @@ pub mod numbers;
 pub mod pending;
 pub mod rings;
 pub mod settings;
+pub mod stats;
 pub mod way;

@@ -3,7 +3,7 @@ ghost use mathlib.Core.Path.{_≡_};
 ghost use Prim.Native.Nat.{_≤_};
 ghost use lib.ListN.{length};
 ghost use Rattle.queue.specs.Queue.{newSettings};
-ghost use Rattle.queue.specs.Settings.{allowed, changed, nameFrom};
+ghost use Rattle.queue.specs.Settings.{allowed, changed, closed, nameFrom};
 use types::frame::ProducerName;
 use types::optional::MaybeU64;
 use types::settings::Delays;
@@ -118,6 +118,18 @@ pub fn with_setting(t: ProducerSettings, s: Setting) -> ProducerSettings
                 ..t
             }
         }
+    }
+}
+
+// For good.
+pub fn closed_settings(t: ProducerSettings) -> ProducerSettings
+    ensures { λ r. ⌜ r ≡ closed t ⌝ }
+{
+    let mut switches = t.switches;
+    switches.closed = true;
+    ProducerSettings {
+        switches: switches,
+        ..t
     }
 }
 

@@ -71,22 +71,31 @@ fn flag(script: &[u8], at: usize) -> bool {
     byte_at(script, at) <= 1
 }
 
-// A mark that may be absent: what is skipped may be anything.
-fn maybe_flag(script: &[u8], at: usize) -> bool {
-    flag(script, at) & ((byte_at(script, at) == 0) | flag(script, behind(at, 1)))
+// Where a message does not lie within the script, the operation is malformed for its size.
+fn message_well_formed(script: &[u8], at: usize) -> bool {
+    if at < script.len() {
+        if 164 <= script.len() - at {
+            (script[at + 16] <= 1)
+                & (script[at + 33] <= 1)
+                & (script[at + 50] <= 1)
+                & (script[at + 83] <= 1)
+                & maybe_flag(script[at + 92], script[at + 93])
+                & maybe_flag(script[at + 94], script[at + 95])
+                & (script[at + 96] <= 1)
+                & (script[at + 105] <= 1)
+                & (script[at + 118] <= 1)
+                & (script[at + 135] <= 1)
+        } else {
+            false
+        }
+    } else {
+        false
+    }
 }
 
-fn message_well_formed(script: &[u8], at: usize) -> bool {
-    flag(script, behind(at, 16))
-        & flag(script, behind(at, 33))
-        & flag(script, behind(at, 50))
-        & flag(script, behind(at, 83))
-        & maybe_flag(script, behind(at, 92))
-        & maybe_flag(script, behind(at, 94))
-        & flag(script, behind(at, 96))
-        & flag(script, behind(at, 105))
-        & flag(script, behind(at, 118))
-        & flag(script, behind(at, 135))
+// A mark that may be absent: what is skipped may be anything.
+fn maybe_flag(present: u8, mark: u8) -> bool {
+    (present == 0) | ((present == 1) & (mark <= 1))
 }
 
 fn receipt_well_formed(script: &[u8], at: usize) -> bool {

@@ -1,4 +1,4 @@
-// The bytes of a script (docs/SCRIPT.md, 'Numbers and values'). Beyond its end a script reads as zeros.
+// The bytes of a script (docs/SCRIPT.md, 'Numbers and values'). What does not lie within the script reads as zero.
 use types::message::MaybePart;
 use types::message::Part;
 use types::optional::MaybeBool;
@@ -35,17 +35,37 @@ fn pair(low: u32, high: u32) -> u64 {
     low as u64 + high as u64 * 0x1_0000_0000
 }
 
+// One test for all the bytes of a number, so that they are read as one word.
 pub fn u32_at(script: &[u8], at: usize) -> u32 {
-    word(
-        byte_at(script, at),
-        byte_at(script, behind(at, 1)),
-        byte_at(script, behind(at, 2)),
-        byte_at(script, behind(at, 3)),
-    )
+    if at < script.len() {
+        if 4 <= script.len() - at {
+            word(script[at], script[at + 1], script[at + 2], script[at + 3])
+        } else {
+            0
+        }
+    } else {
+        0
+    }
 }
 
 pub fn u64_at(script: &[u8], at: usize) -> u64 {
-    pair(u32_at(script, at), u32_at(script, behind(at, 4)))
+    if at < script.len() {
+        if 8 <= script.len() - at {
+            pair(
+                word(script[at], script[at + 1], script[at + 2], script[at + 3]),
+                word(
+                    script[at + 4],
+                    script[at + 5],
+                    script[at + 6],
+                    script[at + 7],
+                ),
+            )
+        } else {
+            0
+        }
+    } else {
+        0
+    }
 }
 
 pub fn usize_at(script: &[u8], at: usize) -> usize {
@@ -163,10 +183,14 @@ pub fn maybe_id_data_at(script: &[u8], at: usize) -> MaybeMessageIdData {
 
 pub fn uuid_at(script: &[u8], at: usize) -> [u8; 16] {
     let mut uuid = [0u8; 16];
-    let mut i: usize = 0;
-    while i < 16 {
-        uuid[i] = byte_at(script, behind(at, i));
-        i += 1;
+    if at < script.len() {
+        if 16 <= script.len() - at {
+            let mut i: usize = 0;
+            while i < 16 {
+                uuid[i] = script[at + i];
+                i += 1;
+            }
+        }
     }
     uuid
 }

@@ -1,36 +1,19 @@
--- `Core::can_add_to_batch`: the four tests are the definition's.
+-- `Core::can_add_to_batch`: what the rule answers.
 use borrow.Author.Needs.{needs}
 use mathlib.Core.Path.{ap, _∙_}
-use mathlib.Core.Bool.{not, _&&_}
-use lib.Dec.{leb}
-use Rattle.laws.specs.Numbers.{addSat}
 use mir.Syntax.{w32}
 use mir.ValLaws.{toZ-ofZ}
-use Rattle.queue.specs.Batch.{atLeastOne, canAddToBatch}
+use Rattle.queue.specs.Batch.{canAddToBatch}
 use Rattle.core.proofs.state.Core.can_add_to_batch.Statement.{statement}
 use Rattle.core.proofs.state.Core.can_add_to_batch.Tie as tie
 
-message-count-requires : tie.Need-message-count-requires
-message-count-requires c κs = search needs
-
-saturating-add-requires : tie.Need-saturating-add-requires
-saturating-add-requires c κs = search needs
-
-saturating-add-requires-2 : tie.Need-saturating-add-requires-2
-saturating-add-requires-2 c κs = search needs
+can-add-requires : tie.Need-can-add-requires
+can-add-requires c κs = search needs
 
 returns : tie.Need-returns
-unfolding canAddToBatch
 returns c =
-    let a = c .before .before .before .before .before .before .before .before .before .args in
-    let t = a .self .settings in
-    let b = a .self .batch in
-    λ j.
-    t .switches .«batching_enabled» && not (t .switches .closed)
-    && leb ((c .before .before .before .before .before .saturating-add .ensures ∙ ap (addSat (b .len)) (c .before .before .before .before .before .before .message-count .ensures ∙ ap atLeastOne (toZ-ofZ w32 (a .num-messages) (c .before .before .before .before .before .before .before .before .before .fits .num-messages)))) j) (t .limits .«max_messages_in_batch»)
-    && leb (c .before .before .before .before .saturating-add2 .ensures j) (t .limits .«max_batch_size_bytes»)
+    let a = c .before .before .before .args in
+    c .can-add .ensures ∙ ap (canAddToBatch (a .self .settings) (a .self .batch) (a .payload-size)) (toZ-ofZ w32 (a .num-messages) (c .before .before .before .fits .num-messages))
 
 pub can-add-to-batch-spec : {M : Type 1} → statement M
-can-add-to-batch-spec =
-    tie.close
-    (tie.spec message-count-requires saturating-add-requires saturating-add-requires-2 returns)
+can-add-to-batch-spec = tie.close (tie.spec can-add-requires returns)

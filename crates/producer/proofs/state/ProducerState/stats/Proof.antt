@@ -7,15 +7,14 @@ use borrow.Author.Needs.{needs}
 use Rattle.producer.proofs.state.ProducerState.stats.Statement.{statement}
 use Rattle.producer.proofs.state.ProducerState.stats.Tie as tie
 
-at-most-requires : tie.Need-at-most-requires
-at-most-requires c κs = search needs
+stats-of-requires : tie.Need-stats-of-requires
+stats-of-requires c κs = search needs
 
 returns : tie.Need-returns
 unfolding view
 returns c =
     let s = c .before .before .args .self in
-    let n = c .at-most .ensures ∙ sym (length-view s (full s (c .before .before .good .0))) in
-    λ j. record { counters = s .core .counters; «pending_queue_size» = n j }
+    c .stats-of .ensures ∙ λ j. record { counters = s .core .counters; «pending_queue_size» = sym (length-view s (full s (c .before .before .good .0))) j }
 
 pub stats-spec : {M : Type 1} → statement M
-stats-spec = tie.close (tie.spec at-most-requires returns)
+stats-spec = tie.close (tie.spec stats-of-requires returns)
