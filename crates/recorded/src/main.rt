@@ -72,7 +72,7 @@ fn main() {
     read_full(0, &mut head);
     let count = read_u32();
     let mut script = [0u8; 131072];
-    let mut answers = [0u8; 131072];
+    let mut answers = [0u8; 32768];
     let mut out = [0u8; 131072];
     line(count as u64);
     let good = replay(&mut script, &mut answers, &mut out, count);

@@ -183,14 +183,10 @@ pub fn maybe_id_data_at(script: &[u8], at: usize) -> MaybeMessageIdData {
 
 pub fn uuid_at(script: &[u8], at: usize) -> [u8; 16] {
     let mut uuid = [0u8; 16];
-    if at < script.len() {
-        if 16 <= script.len() - at {
-            let mut i: usize = 0;
-            while i < 16 {
-                uuid[i] = script[at + i];
-                i += 1;
-            }
-        }
+    let mut i: usize = 0;
+    while i < 16 {
+        uuid[i] = byte_at(script, behind(at, i));
+        i += 1;
     }
     uuid
 }

@@ -10,17 +10,14 @@ Inv-loop script at uuid₀ i₀ uuid i = Unit {0}
 abbrev μ-loop : tie.MeasureT-loop
 μ-loop script at uuid₀ i₀ uuid i = 16 - i
 
-sub-if2 : tie.Need-sub-if2 Inv-loop μ-loop
-sub-if2 c = search needs
-
 loop-holds : tie.Need-loop-holds Inv-loop μ-loop
 loop-holds c = tt
 
-add-uuid : tie.Need-add-uuid Inv-loop μ-loop
-add-uuid c = search needs
+behind-requires : tie.Need-behind-requires Inv-loop μ-loop
+behind-requires c κs = search needs
 
-shared-slice-read-uuid : tie.Need-shared-slice-read-uuid Inv-loop μ-loop
-shared-slice-read-uuid c = search needs
+byte-at-requires : tie.Need-byte-at-requires Inv-loop μ-loop
+byte-at-requires c κs = search needs
 
 array-write-uuid : tie.Need-array-write-uuid Inv-loop μ-loop
 array-write-uuid c = search needs
@@ -37,26 +34,17 @@ loop-again c = tt
 returns : tie.Need-returns Inv-loop μ-loop
 returns c = search needs
 
-returns-2 : tie.Need-returns-2 Inv-loop μ-loop
-returns-2 c = search needs
-
-returns-3 : tie.Need-returns-3 Inv-loop μ-loop
-returns-3 c = search needs
-
 pub uuid-at-spec : {M : Type 1} → statement M
 uuid-at-spec =
     tie.close
     (tie.spec
     Inv-loop
     μ-loop
-    sub-if2
     loop-holds
-    add-uuid
-    shared-slice-read-uuid
+    behind-requires
+    byte-at-requires
     array-write-uuid
     add-i
     loop-less
     loop-again
-    returns
-    returns-2
-    returns-3)
+    returns)
