@@ -1,8 +1,8 @@
 -- What the plans of ids and deadlines answer.
 use Prim.Native.Nat.{ℕ}
 use Rattle.types.specs.declared.optional.MaybeU64.{MaybeU64}
-use Rattle.rules.specs.Deadline.{maybeAfter, unlessNone}
-use Rattle.rules.specs.Stats.{initialIds}
+use Rattle.upkeep.specs.Deadline.{maybeAfter, unlessNone}
+use Rattle.upkeep.specs.Stats.{initialIds}
 use Rattle.core.specs.declared.state.Core.{Core}
 use Rattle.core.specs.State.{coreIds}
 

@@ -14,19 +14,10 @@ use Rattle.types.specs.declared.error.ProducerError.the-variants.{OutboundFull,
 use Rattle.types.specs.declared.frame.FrameRecord.{FrameRecord}
 use Rattle.core.specs.declared.state.Core.{Core}
 use Rattle.rules.specs.declared.rings.Rings.{Rings}
+use Rattle.rules.specs.Rings.{placeBefore}
 use Rattle.core.specs.declared.delta.Accepted.{Accepted}
 use Rattle.core.specs.declared.delta.Pushed.{Pushed}
-use Rattle.core.specs.declared.replay.FrontPlace.{FrontPlace}
 use Rattle.core.specs.State.{coreRings}
-
--- the place before the first of a ring, and the ring once something is there or not
-abbrev pub placeIf : Bool → ℕ → ℕ → ℕ → FrontPlace
-placeIf b cap head len =
-    record { put = b; at = slot cap head (cap - 1); head = pick b (slot cap head (cap - 1)) head; len = pick b (len + 1) len }
-
--- a full ring stays
-abbrev pub placeBefore : Bool → ℕ → ℕ → ℕ → FrontPlace
-placeBefore asked cap head len = placeIf (asked && ltb len cap) cap head len
 
 -- a record of n frames before the first
 abbrev pub frontedCore : Bool → FrameRecord → ℕ → Core → Pushed

@@ -6,7 +6,7 @@ use rules::blank::no_message;
 use rules::numbers::saturating_add;
 use rules::numbers::saturating_add_u64;
 use rules::numbers::wrapping_next;
-use rules::rings::Rings;
+use rules::rings::Ring;
 use rules::rings::place_of;
 use types::answer::CountOutcome;
 use types::answer::SendDecision;
@@ -152,7 +152,7 @@ impl Core {
         ensures { λ r. ⌜ r ≡ pushed frame frames self ⌝ }
     {
         let mut rings = self.rings;
-        let p = place_of(Rings::OUTBOUND, rings.outbound_head, rings.outbound_len);
+        let p = place_of(Ring::Outbound, rings.outbound_head, rings.outbound_len);
         let waiting = saturating_add(rings.waiting, frames);
         rings.outbound_len = p.len;
         rings.waiting = waiting;
@@ -174,7 +174,7 @@ impl Core {
         let mut rings = self.rings;
         let mut ids = self.ids;
         let id = ids.next_sequence_id;
-        let p = place_of(Rings::PENDING, rings.pending_head, rings.pending_len);
+        let p = place_of(Ring::Pending, rings.pending_head, rings.pending_len);
         let next = wrapping_next(id);
         let last = signed_of(id);
         rings.pending_len = p.len;
@@ -199,7 +199,7 @@ impl Core {
         ensures { λ r. ⌜ r ≡ held single self ⌝ }
     {
         let mut rings = self.rings;
-        let p = place_of(Rings::HELD, rings.held_head, rings.held_len);
+        let p = place_of(Ring::Held, rings.held_head, rings.held_len);
         rings.held_len = p.len;
         self.rings = rings;
         Held {

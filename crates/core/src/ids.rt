@@ -2,10 +2,10 @@
 ghost use mathlib.Core.Path.{_≡_};
 ghost use Rattle.core.specs.Ids.{withInitialId, sendDeadlineOf, batchDeadlineOf};
 use crate::state::Core;
-use rules::deadline::after;
-use rules::deadline::unless_none;
-use rules::stats::initial_ids;
 use types::optional::MaybeU64;
+use upkeep::deadline::after;
+use upkeep::deadline::unless_none;
+use upkeep::stats::initial_ids;
 
 impl Core {
     // Of the front entry, which was sent at `enqueued_at`.

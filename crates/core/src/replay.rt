@@ -1,73 +1,21 @@
 // What a replay does to the scalars, and when it is refused (document 01, 'receipts, errors, snapshot, replay').
 ghost use mathlib.Core.Path.{_≡_};
-ghost use mathlib.Core.Bool.{_&&_};
-ghost use Prim.Native.Nat.{_+_, _<_, _≤_, min};
-ghost use lib.Dec.{ltb};
-ghost use Rattle.core.specs.Replay.{placeBefore, frontedCore, frontedEntry, replayCount, replayAnswer};
+ghost use Rattle.core.specs.Replay.{frontedCore, frontedEntry, replayCount, replayAnswer};
 use crate::delta::Accepted;
 use crate::delta::EntryPut;
 use crate::delta::FramePut;
 use crate::delta::Pushed;
 use crate::state::Core;
-use rules::batch::too_many;
-use rules::numbers::at_most;
 use rules::numbers::saturating_add;
-use rules::rings::Rings;
+use rules::rings::Ring;
+use rules::rings::place_before;
+use rules::rings::too_many;
+use rules::rings::too_many_pending;
 use types::answer::CountOutcome;
 use types::answer::Outcome;
 use types::entry::OpSend;
 use types::error::ProducerError;
 use types::frame::FrameRecord;
-
-// Where a record goes before the first of a ring, and where the ring begins and how long it is then.
-pub struct FrontPlace {
-    pub put: bool,
-    pub at: usize,
-    pub head: usize,
-    pub len: usize,
-}
-
-fn has_place(asked: bool, len: usize, cap: usize) -> bool
-    ensures { λ r. ⌜ r ≡ (asked && ltb len cap) ⌝ }
-{
-    asked & (len < cap)
-}
-
-// A full ring stays as it is, and so does one before which nothing is asked for.
-pub fn place_before(asked: bool, cap: usize, head: usize, len: usize) -> FrontPlace
-    requires { ⌜ (0 < cap) × (cap ≤ 1024) ⌝ }
-    ensures { λ r. ⌜ r ≡ placeBefore asked cap head len ⌝ }
-{
-    let at = (head % cap + (cap - 1)) % cap;
-    if has_place(asked, len, cap) {
-        FrontPlace {
-            put: true,
-            at: at,
-            head: at,
-            len: len + 1,
-        }
-    } else {
-        FrontPlace {
-            put: false,
-            at: at,
-            head: head,
-            len: len,
-        }
-    }
-}
-
-// 7: more than 256 entries would be pending.
-pub fn too_many_pending(pending: usize, entries: usize) -> bool
-    ensures { λ r. ⌜ r ≡ ltb 256 (entries + min pending 256) ⌝ }
-{
-    let n = at_most(pending, Rings::PENDING);
-    if entries <= Rings::PENDING {
-        let room = Rings::PENDING - entries;
-        room < n
-    } else {
-        true
-    }
-}
 
 impl Core {
     // A record of so many frames in front of those that wait; of a batched entry there is none.
@@ -77,7 +25,7 @@ impl Core {
         let mut rings = self.rings;
         let p = place_before(
             asked,
-            Rings::OUTBOUND,
+            Ring::Outbound,
             rings.outbound_head,
             rings.outbound_len,
         );
@@ -101,7 +49,7 @@ impl Core {
         ensures { λ r. ⌜ r ≡ frontedEntry op self ⌝ }
     {
         let mut rings = self.rings;
-        let p = place_before(true, Rings::PENDING, rings.pending_head, rings.pending_len);
+        let p = place_before(true, Ring::Pending, rings.pending_head, rings.pending_len);
         rings.pending_head = p.head;
         rings.pending_len = p.len;
         self.rings = rings;

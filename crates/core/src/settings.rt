@@ -2,13 +2,14 @@
 ghost use mathlib.Core.Path.{_≡_};
 ghost use Rattle.core.specs.Settings.{setPlanned, namePlanned, closedCore};
 use crate::state::Core;
-use rules::settings::allows;
-use rules::settings::closed_settings;
-use rules::settings::name_from;
-use rules::settings::with_setting;
 use types::answer::Outcome;
 use types::error::ProducerError;
 use types::settings::Setting;
+use upkeep::settings::allows;
+use upkeep::settings::allows_name;
+use upkeep::settings::closed_settings;
+use upkeep::settings::name_from;
+use upkeep::settings::with_setting;
 
 pub struct SetPlan {
     pub answer: Outcome,
@@ -19,7 +20,7 @@ impl Core {
     pub fn set_name(mut self, name: &[u8]) -> SetPlan
         ensures { λ r. ⌜ r ≡ namePlanned (now (name .entry)) self ⌝ }
     {
-        if name.len() <= 64 {
+        if allows_name(name.len()) {
             let n = name_from(name);
             let mut settings = self.settings;
             settings.name = n;

@@ -2,12 +2,13 @@
 ghost use mathlib.Core.Path.{_≡_};
 ghost use Rattle.core.specs.State.{newCore};
 use rules::rings::Rings;
-use rules::settings::new_settings;
 use types::batch::BatchContainer;
 use types::settings::ProducerSettings;
 use types::stats::Counters;
 use types::stats::SequenceIds;
 use types::types::ProducerHandle;
+use upkeep::settings::new_settings;
+use upkeep::stats::new_ids;
 
 pub struct Core {
     pub handle: ProducerHandle,
@@ -24,15 +25,12 @@ impl Core {
         ensures { λ r. ⌜ r ≡ newCore handle ⌝ }
     {
         let settings = new_settings();
+        let ids = new_ids();
         let batch = BatchContainer::empty();
         Core {
             handle: handle,
             settings: settings,
-            ids: SequenceIds {
-                next_sequence_id: 0,
-                last_sequence_id_pushed: -1,
-                last_sequence_id_published: -1,
-            },
+            ids: ids,
             counters: Counters {
                 total_msgs_sent: 0,
                 total_bytes_sent: 0,

@@ -73,7 +73,7 @@ impl Core {
     }
 
     // A message over the bound of 3 has none.
-    pub fn way(self, m: OutgoingMessage) -> Way
+    pub(crate) fn way(self, m: OutgoingMessage) -> Way
         requires { ⌜ m .payload .len ≤ 16777216 ⌝ }
         ensures { λ r. ⌜ r ≡ wayOf (self .settings) m (self .batch) ⌝ }
     {

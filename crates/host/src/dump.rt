@@ -1,13 +1,13 @@
 // The dump: all that can be asked of a producer, and its pending entries.
 use producer::state::ProducerState;
 use rules::numbers::at_most;
-use rules::pending::Found;
-use rules::pending::locate;
 use script::answer::put_core;
 use script::answer::put_publish;
 use script::write::put_bool;
 use script::write::put_count32;
 use types::entry::Publish;
+use upkeep::pending::Found;
+use upkeep::pending::locate;
 ghost use Rattle.script.specs.Output.{Wrote};
 
 const CODE: u8 = 0x26;

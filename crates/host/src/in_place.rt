@@ -15,8 +15,6 @@ use frames::span::is_batch;
 use producer::state::ProducerState;
 use rules::numbers::at_most;
 use rules::numbers::saturating_sub;
-use rules::pending::Found;
-use rules::pending::locate;
 use script::answer::put_decision;
 use script::answer::put_publish;
 use script::answer::put_refusal;
@@ -26,6 +24,8 @@ use script::read::bytes_at;
 use script::read::u64_at;
 use types::error::ProducerError;
 use types::types::ProducerHandle;
+use upkeep::pending::Found;
+use upkeep::pending::locate;
 ghost use Prim.Native.Nat.{_<_};
 ghost use Rattle.script.specs.Output.{Wrote};
 

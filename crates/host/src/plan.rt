@@ -6,8 +6,6 @@ use crate::call::put_len;
 use core::delta::FramePut;
 use core::delta::no_frame;
 use core::state::Core;
-use rules::deadline::elapsed;
-use rules::stats::stats_of;
 use script::answer::put_count;
 use script::answer::put_deadline;
 use script::answer::put_outcome;
@@ -23,6 +21,9 @@ use script::write::put_i32;
 use script::write::put_message_id;
 use types::answer::Outcome;
 use types::types::MessageId;
+use upkeep::deadline::elapsed;
+use upkeep::stats::outbound_len_of;
+use upkeep::stats::stats_of;
 ghost use mathlib.Core.Path.{_≡_};
 ghost use Prim.Native.Nat.{_<_};
 ghost use Rattle.script.specs.Output.{Wrote};
@@ -109,7 +110,10 @@ fn plan_query(
                 i32_at(script, behind(at, 9)),
             ),
         ),
-        0x24 => put_len(out, to, code, c.rings.waiting),
+        0x24 => {
+            let rings = c.rings;
+            put_len(out, to, code, outbound_len_of(rings))
+        }
         _ => {
             let counters = c.counters;
             put_stats(out, to, code, stats_of(counters, c.rings.pending_len))

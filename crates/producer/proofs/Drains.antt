@@ -25,7 +25,7 @@ use Rattle.queue.specs.Queue.{Queue, refused, done, emptyOutgoing, withPending,
 use Rattle.queue.specs.Ids.{elapsed, sendDeadline}
 use Rattle.queue.specs.Settle.{dueCount, unmark, unmarkAll, handOut, drainTimedOutSends, tableAfter}
 use Rattle.queue.specs.Tables.{drainPendingSends}
-use Rattle.rules.specs.Pending.{clearedAll}
+use Rattle.upkeep.specs.Pending.{clearedAll}
 use Rattle.tables.specs.Drain.{clearedEach, goneCount}
 use Rattle.tables.specs.declared.drain.Handout.{Handout}
 use Rattle.tables.proofs.Blank.{blank}

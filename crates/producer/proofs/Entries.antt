@@ -11,7 +11,7 @@ use lib.ListN.{length, getD, set}
 use Rattle.types.specs.declared.entry.OpSend.{OpSend}
 use Rattle.types.specs.declared.entry.Publish.{Publish}
 use Rattle.queue.specs.Settle.{unmark}
-use Rattle.rules.specs.Pending.{Key, keys, cleared, clearedAll}
+use Rattle.upkeep.specs.Pending.{Key, keys, cleared, clearedAll}
 use Rattle.producer.specs.View.{entryOf, entries}
 use Rattle.producer.specs.Settle.{keyOf}
 

@@ -16,7 +16,8 @@ use native.Mathlib.Nat.{mod-lt}
 use Rattle.types.specs.declared.entry.OpSend.{OpSend}
 use Rattle.queue.specs.Queue.{Outgoing, Queue, withOut, withPending}
 use Rattle.queue.specs.Tables.{isBatched, framesOf, framedOf, framesFor, again, fronted, mark}
-use Rattle.core.specs.Replay.{placeBefore, frontedCore, frontedEntry}
+use Rattle.rules.specs.Rings.{placeBefore}
+use Rattle.core.specs.Replay.{frontedCore, frontedEntry}
 use Rattle.core.specs.declared.delta.Accepted.{Accepted}
 use Rattle.core.specs.declared.delta.Pushed.{Pushed}
 use Rattle.core.specs.declared.state.Core.{Core}

@@ -14,9 +14,9 @@ use Rattle.laws.specs.Ring.{ring, slot}
 use Rattle.laws.proofs.Slots.{slot-below}
 use Rattle.laws.proofs.Lists.{first-below}
 use Rattle.laws.proofs.Rings.{ring-map, length-ring, ring-at}
-use Rattle.rules.specs.Pending.{Key, keys, wanted, toFound, placeOf, firstIf, located}
-use Rattle.rules.specs.declared.pending.Found.{Found}
-use Rattle.rules.specs.declared.pending.Found.the-variants.{At, Nothing}
+use Rattle.upkeep.specs.Pending.{Key, keys, wanted, toFound, placeOf, firstIf, located}
+use Rattle.upkeep.specs.declared.pending.Found.{Found}
+use Rattle.upkeep.specs.declared.pending.Found.the-variants.{At, Nothing}
 use Rattle.types.specs.declared.entry.OpSend.{OpSend}
 use Rattle.types.specs.declared.entry.Publish.{Publish}
 use Rattle.queue.specs.Queue.{withPending}

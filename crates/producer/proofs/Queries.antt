@@ -20,7 +20,7 @@ use Rattle.types.specs.declared.optional.MaybeU64.the-variants.{Absent, Present
 use Rattle.types.specs.declared.entry.OpSend.{OpSend}
 use Rattle.types.specs.declared.entry.Publish.{Publish}
 use Rattle.queue.specs.Ids.{after, elapsed, frontDeadline, nextSendDeadline, nextBatchDeadline, batchDeadlineElapsed}
-use Rattle.rules.specs.Deadline.{maybeAfter, hasElapsed, unlessNone}
+use Rattle.upkeep.specs.Deadline.{maybeAfter, hasElapsed, unlessNone}
 use Rattle.core.specs.Ids.{sendDeadlineOf, batchDeadlineOf}
 use Rattle.producer.specs.View.{view, slotsOf, entryOf}
 use Rattle.producer.specs.declared.state.ProducerState.{ProducerState}

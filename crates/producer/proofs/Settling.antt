@@ -12,9 +12,9 @@ use Rattle.laws.specs.Lists.{firstAt}
 use Rattle.laws.specs.Lists as lists
 use Rattle.types.specs.declared.entry.OpSend.{OpSend}
 use Rattle.queue.specs.Settle.{bears, answerable, found, without, unmark}
-use Rattle.rules.specs.Pending.{Key, wanted, toFound, firstIf, located}
-use Rattle.rules.specs.declared.pending.Found.{Found}
-use Rattle.rules.specs.declared.pending.Found.the-variants.{At, Nothing}
+use Rattle.upkeep.specs.Pending.{Key, wanted, toFound, firstIf, located}
+use Rattle.upkeep.specs.declared.pending.Found.{Found}
+use Rattle.upkeep.specs.declared.pending.Found.the-variants.{At, Nothing}
 use Rattle.producer.specs.Settle.{keyOf}
 
 -- one place on

@@ -10,9 +10,9 @@ use Rattle.types.specs.declared.error.ProducerError.the-variants.{NotAnswerable
 use Rattle.types.specs.declared.entry.OpSend.{OpSend}
 use Rattle.queue.specs.Queue.{withPending}
 use Rattle.queue.specs.Settle.{unmark}
-use Rattle.rules.specs.Pending.{Key, located, clearedAll}
-use Rattle.rules.specs.declared.pending.Found.{Found}
-use Rattle.rules.specs.declared.pending.Found.the-variants.{At, Nothing}
+use Rattle.upkeep.specs.Pending.{Key, located, clearedAll}
+use Rattle.upkeep.specs.declared.pending.Found.{Found}
+use Rattle.upkeep.specs.declared.pending.Found.the-variants.{At, Nothing}
 use Rattle.producer.specs.View.{view, slotsOf}
 use Rattle.producer.specs.declared.settle.Settled.{Settled}
 use Rattle.producer.specs.declared.state.ProducerState.{ProducerState}

@@ -5,10 +5,11 @@ ghost use Rattle.queue.specs.Ids.{nextSendDeadline, nextBatchDeadline, batchDea
 ghost use Rattle.queue.specs.Queries.{mayAdd, outboundLen, stats};
 ghost use Rattle.producer.specs.View.{view};
 use crate::state::ProducerState;
-use rules::deadline::elapsed;
-use rules::stats::stats_of;
 use types::optional::MaybeU64;
 use types::stats::ProducerStats;
+use upkeep::deadline::elapsed;
+use upkeep::stats::outbound_len_of;
+use upkeep::stats::stats_of;
 
 impl ProducerState {
     pub fn next_send_deadline(self) -> MaybeU64
@@ -47,7 +48,8 @@ impl ProducerState {
     pub fn outbound_len(self) -> usize
         ensures { λ r. ⌜ r ≡ outboundLen (view self) ⌝ }
     {
-        self.core.rings.waiting
+        let rings = self.core.rings;
+        outbound_len_of(rings)
     }
 
     pub fn stats(self) -> ProducerStats

@@ -2,7 +2,7 @@
 ghost use mathlib.Core.Path.{_≡_};
 ghost use mathlib.Core.List.{map};
 ghost use lib.ListN.{getD};
-ghost use Rattle.rules.specs.Pending.{located};
+ghost use Rattle.upkeep.specs.Pending.{located};
 ghost use Prim.Native.Nat.{_<_, min};
 ghost use Rattle.laws.specs.Lists.{without};
 ghost use Rattle.queue.specs.Queue.{withPending};
@@ -13,9 +13,6 @@ ghost use Rattle.producer.specs.Answers.{toldReceipt, toldError};
 ghost use Rattle.producer.specs.View.{view, entryOf};
 use crate::state::ProducerState;
 use rules::numbers::at_most;
-use rules::pending::Found;
-use rules::pending::locate;
-use rules::pending::unmark;
 use types::answer::Outcome;
 use types::command::CommandSendError;
 use types::command::CommandSendReceipt;
@@ -24,6 +21,9 @@ use types::entry::Publish;
 use types::error::ProducerError;
 use types::types::MessageId;
 use types::types::SequenceId;
+use upkeep::pending::Found;
+use upkeep::pending::locate;
+use upkeep::pending::unmark;
 
 // The entry that left, and the state without it; or the state as it was, where the id is not answerable.
 pub struct Settled {

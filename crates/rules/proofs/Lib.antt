@@ -1,4 +1,2 @@
-pub mod Keys
-pub mod Names
 pub mod Rounding
 pub mod Tests

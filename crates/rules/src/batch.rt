@@ -138,18 +138,6 @@ pub fn with_message(b: BatchContainer, m: OutgoingMessage, id: u64, now: u64) ->
     }
 }
 
-// 4: more than 1,024 frames would wait.
-pub fn too_many(waiting: usize, frames: usize) -> bool
-    ensures { λ r. ⌜ r ≡ ltb 1024 (waiting + frames) ⌝ }
-{
-    if frames <= Rings::OUTBOUND {
-        let room = Rings::OUTBOUND - frames;
-        room < waiting
-    } else {
-        true
-    }
-}
-
 // Whether a flush that gives this answer makes its frame.
 pub fn makes_frame(o: CountOutcome) -> bool
     ensures { λ r. ⌜ r ≡ makesFrame o ⌝ }

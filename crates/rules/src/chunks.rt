@@ -1,8 +1,9 @@
 // How a message over the limit is cut (document 01, 'sends').
 ghost use mathlib.Core.Path.{_≡_};
-ghost use Prim.Native.Nat.{_*_, _<_, _≤_, min};
+ghost use Prim.Native.Nat.{_*_, min};
 ghost use Rattle.queue.specs.Send.{chunkSize, totalChunks};
 ghost use Rattle.rules.specs.Chunks.{cutOf};
+use crate::numbers::at_most;
 
 // Chunks of this size, so many.
 pub struct Cut {
@@ -54,12 +55,11 @@ pub fn chunked_bytes(payload_len: usize, total_chunks: u32, max_chunk_size: u32)
     if payload_len < all { payload_len } else { all }
 }
 
-// How a payload over the limit is cut. Within the bound of 3 both numbers fit 32 bits.
+// How a payload over the limit is cut. A size that 32 bits cannot hold is none that the bound of 3 allows.
 pub fn cut_of(payload_len: usize, max_message_size: usize) -> Cut
-    requires { ⌜ («max_message_size» < «payload_len») × («payload_len» ≤ 16777216) ⌝ }
     ensures { λ r. ⌜ r ≡ cutOf «payload_len» «max_message_size» ⌝ }
 {
-    let size = chunk_size(max_message_size);
+    let size = at_most(chunk_size(max_message_size), u32::MAX as usize);
     let count = compute_total_chunks(payload_len, size);
     Cut {
         max_chunk_size: size as u32,

@@ -16,8 +16,8 @@ use Rattle.types.specs.declared.optional.MaybeU64.the-variants.{Absent, Present
 use Rattle.queue.specs.Ids.{after, elapsed}
 use Rattle.queue.specs.Settle.{dueCount}
 use Rattle.queue.specs.Tables.{isBatched, batchedOf, framedOf}
-use Rattle.rules.specs.Deadline.{maybeAfter, hasElapsed}
-use Rattle.rules.specs.Pending.{clearedAll}
+use Rattle.upkeep.specs.Deadline.{maybeAfter, hasElapsed}
+use Rattle.upkeep.specs.Pending.{clearedAll}
 use Rattle.tables.specs.Drain.{isDue, clearedEach}
 use Rattle.tables.specs.Picked.{sameAs, kindOf}
 

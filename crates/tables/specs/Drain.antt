@@ -11,7 +11,7 @@ use Rattle.types.specs.declared.optional.MaybeU64.{MaybeU64}
 use Rattle.types.specs.declared.optional.MaybeU64.the-variants.{Absent, Present}
 use Rattle.queue.specs.Ids.{sendDeadline, elapsed}
 use Rattle.queue.specs.Settle.{dueCount}
-use Rattle.rules.specs.Pending.{clearedAll}
+use Rattle.upkeep.specs.Pending.{clearedAll}
 use Rattle.tables.specs.declared.drain.Handout.{Handout}
 
 abbrev pub isDue : ℕ → Option ℕ → OpSend → Bool

@@ -5,11 +5,11 @@ ghost use lib.ListN.{take};
 ghost use Rattle.types.specs.Values.{numOf};
 ghost use Rattle.queue.specs.Settle.{dueCount};
 ghost use Rattle.tables.specs.Drain.{clearedEach, goneCount, handoutOf, isDue};
-use rules::deadline::after;
-use rules::deadline::elapsed;
-use rules::pending::unmark;
 use types::entry::OpSend;
 use types::optional::MaybeU64;
+use upkeep::deadline::after;
+use upkeep::deadline::elapsed;
+use upkeep::pending::unmark;
 
 // So many entries are to be handed out. As many are written, or none where the table is too short for all.
 pub struct Handout {

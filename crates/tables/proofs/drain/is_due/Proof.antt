@@ -1,6 +1,6 @@
 -- `drain::is_due`.
 use mathlib.Core.Path.{ap, _∙_}
-use Rattle.rules.specs.Deadline.{hasElapsed}
+use Rattle.upkeep.specs.Deadline.{hasElapsed}
 use Rattle.tables.proofs.Turns.{due-is}
 use borrow.Author.Needs.{needs}
 use native.Mathlib.Omega.{arith}

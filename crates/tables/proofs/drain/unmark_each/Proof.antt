@@ -1,7 +1,7 @@
 -- `drain::unmark_each`: the ids before the one at hand are cleared.
 use mathlib.Core.Path.{_≡_, ap, sym, _∙_}
 use Rattle.types.specs.declared.entry.OpSend.{OpSend}
-use Rattle.rules.specs.Pending.{clearedAll}
+use Rattle.upkeep.specs.Pending.{clearedAll}
 use lib.ListN.{length}
 use lib.Seq.{length-take-le}
 use lib.ListN.{take}

@@ -2,6 +2,8 @@
 use borrow.Author.Needs.{needs}
 use mathlib.Core.Path.{_≡_, refl, ap, sym, _∙_}
 use mathlib.Core.Bool.{Bool, not, _&&_}
+use Prim.Native.Nat.{ℕ, _<_, _≤_}
+use native.Mathlib.Omega.{arith}
 use borrow.Author.Tests.{ltb-true}
 use Rattle.laws.specs.Choice.{pick}
 use Rattle.laws.specs.Numbers.{addSat}
@@ -12,6 +14,8 @@ use Rattle.types.specs.declared.way.Way.{Way}
 use Rattle.types.specs.declared.way.Way.the-variants.{TooLarge, Join, Single, Chunked}
 use Rattle.queue.specs.Batch.{mayJoin, isFull}
 use Rattle.queue.specs.Send.{large, chunkSize, totalChunks, wayInto}
+use Rattle.rules.specs.Chunks.{sizeOf}
+use Rattle.rules.proofs.Rounding.{chunk-below}
 use Rattle.core.proofs.state.Core.way_into.Statement.{statement}
 use Rattle.core.proofs.state.Core.way_into.Tie as tie
 
@@ -32,6 +36,10 @@ module _ (t : ProducerSettings) (m : OutgoingMessage) (before : Bool) (b : Batch
       let f3 = sym el ∙ e3 in
       sym (λ i. pick (f1 i) (TooLarge before) (pick (f2 i) joining (pick (f3 i) cut (Single before))))
 
+-- the limit that a payload within the bound of 3 is over
+fits : (limit len : ℕ) → limit < len → len ≤ 16777216 → sizeOf limit ≡ chunkSize limit
+fits limit len over within = omega (arith, chunk-below limit)
+
 is-large-requires : tie.Need-is-large-requires
 is-large-requires c κs = search needs
 
@@ -48,9 +56,7 @@ is-full-requires : tie.Need-is-full-requires
 is-full-requires c κs = search needs
 
 cut-of-requires : tie.Need-cut-of-requires
-cut-of-requires c κs =
-    let a = c .before .before .before .before .before .before .args in
-    (ltb-true (a .self .settings .limits .«max_message_size») (a .m .payload .len) (sym (c .before .before .before .before .before .is-large .ensures) ∙ c .if3 .taken), c .before .before .before .before .before .before .pre)
+cut-of-requires c κs = search needs
 
 returns : tie.Need-returns
 unfolding joining cut
@@ -70,7 +76,11 @@ returns-3 : tie.Need-returns-3
 unfolding joining cut
 returns-3 c =
     let a = c .before .before .before .before .before .before .before .args in
+    let limit = a .self .settings .limits .«max_message_size» in
+    let over = ltb-true limit (a .m .payload .len) (sym (c .before .before .before .before .before .before .is-large .ensures) ∙ c .before .if3 .taken) in
+    let size = fits limit (a .m .payload .len) over (c .before .before .before .before .before .before .before .pre) in
     (λ j. Chunked (a .before) (c .cut-of .ensures j .«max_chunk_size») (c .cut-of .ensures j .«total_chunks»))
+    ∙ (λ j. Chunked (a .before) (size j) (totalChunks (a .m .payload .len) (size j)))
     ∙ by (a .self .settings) (a .m) (a .before) (a .self .batch) (c .before .before .before .before .before .before .is-large .ensures) (c .before .before .before .before .if1 .left)
     (c .before .before .before .may-join .ensures) (c .before .before .if2 .left) (c .before .if3 .taken)
 

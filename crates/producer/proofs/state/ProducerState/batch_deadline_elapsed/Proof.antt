@@ -1,6 +1,6 @@
 -- `ProducerState::batch_deadline_elapsed`: the deadline is that of the scalars.
 use mathlib.Core.Path.{ap, _∙_}
-use Rattle.rules.specs.Deadline.{hasElapsed}
+use Rattle.upkeep.specs.Deadline.{hasElapsed}
 use Rattle.producer.proofs.Queries.{batch-elapsed}
 use borrow.Author.Needs.{needs}
 use Rattle.producer.proofs.state.ProducerState.batch_deadline_elapsed.Statement.{statement}

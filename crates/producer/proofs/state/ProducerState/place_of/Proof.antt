@@ -1,6 +1,6 @@
 -- `ProducerState::place_of`: the ids and marks searched are those of the pending entries.
 use mathlib.Core.Path.{_≡_, ap, sym, _∙_}
-use Rattle.rules.specs.Pending.{located}
+use Rattle.upkeep.specs.Pending.{located}
 use Rattle.producer.proofs.Full.{full}
 use Rattle.producer.proofs.Locate.{keys-view}
 use borrow.Author.Needs.{needs}

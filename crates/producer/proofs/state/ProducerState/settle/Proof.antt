@@ -5,9 +5,9 @@ use Prim.Native.Nat.{ℕ, _<_, min}
 use lib.ListN.{length, length-map}
 use Rattle.laws.specs.Lists.{without}
 use Rattle.queue.specs.Queue.{Queue, withPending}
-use Rattle.rules.specs.Pending.{located}
-use Rattle.rules.specs.declared.pending.Found.{Found}
-use Rattle.rules.specs.declared.pending.Found.the-variants.{At}
+use Rattle.upkeep.specs.Pending.{located}
+use Rattle.upkeep.specs.declared.pending.Found.{Found}
+use Rattle.upkeep.specs.declared.pending.Found.the-variants.{At}
 use Rattle.producer.specs.View.{view}
 use Rattle.producer.specs.Settle.{keyOf, settlesAt}
 use Rattle.producer.specs.declared.state.ProducerState.{ProducerState}

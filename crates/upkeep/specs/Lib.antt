@@ -1,0 +1,3 @@
+pub mod Deadline
+pub mod Pending
+pub mod Stats
