@@ -1,10 +1,8 @@
 -- What the plans of settling answer.
 use Prim.Native.Nat.{ℕ, _-_, min}
-use lib.IntN.{ℤ}
 use Rattle.queue.specs.Ids.{published}
 use Rattle.types.specs.declared.answer.Outcome.{Outcome}
 use Rattle.types.specs.declared.answer.Outcome.the-variants.{Done, Refused}
-use Rattle.types.specs.declared.stats.SequenceIds.{SequenceIds}
 use Rattle.rules.specs.declared.rings.Rings.{Rings}
 use Rattle.rules.specs.Rings.{headAfter}
 use Rattle.core.specs.declared.state.Core.{Core}
@@ -26,14 +24,6 @@ abbrev pub coreWithout : ℕ → Core → Core
 coreWithout place c =
     let r = c .rings in
     coreRings (pendingRing (headAfter (r .«pending_head») place) (min (r .«pending_len») 256 - 1) r) c
-
-abbrev pub idsPublished : ℤ → SequenceIds → SequenceIds
-idsPublished z i =
-    record {
-      «next_sequence_id» = i .«next_sequence_id»;
-      «last_sequence_id_pushed» = i .«last_sequence_id_pushed»;
-      «last_sequence_id_published» = z;
-    }
 
 abbrev pub corePublished : Outcome → ℕ → Core → Core
 corePublished Done id c = coreIds (published id (c .ids)) c

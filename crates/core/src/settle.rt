@@ -6,7 +6,7 @@ use rules::numbers::at_most;
 use rules::numbers::saturating_sub;
 use rules::rings::head_after;
 use types::answer::Outcome;
-use types::signed::signed_of;
+use upkeep::stats::published_ids;
 
 impl Core {
     // The entry at a place leaves. The ring then begins one on, if it was the first; else the entries behind it have moved up.
@@ -25,15 +25,9 @@ impl Core {
     pub fn published(mut self, answer: Outcome, id: u64) -> Core
         ensures { λ r. ⌜ r ≡ corePublished answer id self ⌝ }
     {
-        match answer {
-            Outcome::Done => {
-                let mut ids = self.ids;
-                let published = signed_of(id);
-                ids.last_sequence_id_published = published;
-                self.ids = ids;
-                self
-            }
-            Outcome::Refused(_) => self,
-        }
+        let ids = self.ids;
+        let after = published_ids(ids, answer, id);
+        self.ids = after;
+        self
     }
 }

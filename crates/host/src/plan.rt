@@ -20,6 +20,7 @@ use script::read::usize_at;
 use script::write::put_i32;
 use script::write::put_message_id;
 use types::answer::Outcome;
+use types::error::ProducerError;
 use types::types::MessageId;
 use upkeep::deadline::elapsed;
 use upkeep::stats::outbound_len_of;
@@ -149,12 +150,12 @@ pub(crate) fn plan(
 
 // The scalars once the entry at a place has left.
 pub(crate) fn settled(c: Core, place: usize, code: u8, id: u64) -> Core {
-    let left = c.without_entry(place);
-    if code == 0x05 {
-        left.published(Outcome::Done, id)
+    let answer = if code == 0x05 {
+        Outcome::Done
     } else {
-        left
-    }
+        Outcome::Refused(ProducerError::NotAnswerable)
+    };
+    c.without_entry(place).published(answer, id)
 }
 
 // What an answer has in front of the entry that left: the message id of a receipt, or the error's code.

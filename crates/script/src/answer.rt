@@ -227,37 +227,52 @@ fn put_sent(out: &mut [u8], at: usize, p: Publish) -> usize
     put_raw(out, c, &uuid)
 }
 
-fn put_replay(out: &mut [u8], at: usize, p: Publish) -> usize
+fn put_entry_head(
+    out: &mut [u8],
+    at: usize,
+    id: u64,
+    num_messages: i32,
+    enqueued_at: u64,
+    reserved: u64,
+) -> usize
     ensures { λ r. ⌜ Wrote at (now (out .entry)) (now (out .exit)) r ⌝ }
 {
+    let a = put_u64(out, at, id);
+    let b = put_i32(out, a, num_messages);
+    let c = put_u64(out, b, enqueued_at);
+    put_u64(out, c, reserved)
+}
+
+// A batched entry ends with its kind, so that most receipts copy nothing of the message.
+pub fn put_publish(out: &mut [u8], at: usize, id: u64, p: Publish) -> usize
+    ensures { λ r. ⌜ Wrote at (now (out .entry)) (now (out .exit)) r ⌝ }
+{
+    let reservation = p.reservation;
     let replay = p.replay;
+    let to = put_entry_head(
+        out,
+        at,
+        id,
+        p.num_messages,
+        p.enqueued_at,
+        reservation.bytes,
+    );
     match replay {
-        Replay::Batched => put_u8(out, at, 0),
+        Replay::Batched => put_u8(out, to, 0),
         Replay::Single => {
-            let kind = put_u8(out, at, 1);
+            let kind = put_u8(out, to, 1);
             put_sent(out, kind, p)
         }
         Replay::Chunked {
             total_chunks,
             max_chunk_size,
         } => {
-            let kind = put_u8(out, at, 2);
+            let kind = put_u8(out, to, 2);
             let size = put_u32(out, kind, max_chunk_size);
             let count = put_u32(out, size, total_chunks);
             put_sent(out, count, p)
         }
     }
-}
-
-pub fn put_publish(out: &mut [u8], at: usize, id: u64, p: Publish) -> usize
-    ensures { λ r. ⌜ Wrote at (now (out .entry)) (now (out .exit)) r ⌝ }
-{
-    let reservation = p.reservation;
-    let a = put_u64(out, at, id);
-    let b = put_i32(out, a, p.num_messages);
-    let c = put_u64(out, b, p.enqueued_at);
-    let d = put_u64(out, c, reservation.bytes);
-    put_replay(out, d, p)
 }
 
 pub fn put_entry(out: &mut [u8], at: usize, op: OpSend) -> usize

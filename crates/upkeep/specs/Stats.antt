@@ -4,9 +4,12 @@ use lib.Dec.{ltb}
 use lib.IntN.{ℤ}
 use Rattle.laws.specs.Choice.{pick}
 use Rattle.types.specs.Ids.{beforeNext}
+use Rattle.types.specs.declared.answer.Outcome.{Outcome}
+use Rattle.types.specs.declared.answer.Outcome.the-variants.{Done, Refused}
 use Rattle.types.specs.declared.stats.Counters.{Counters}
 use Rattle.types.specs.declared.stats.ProducerStats.{ProducerStats}
 use Rattle.types.specs.declared.stats.SequenceIds.{SequenceIds}
+use Rattle.queue.specs.Ids.{published}
 
 abbrev pub statsOf : Counters → ℕ → ProducerStats
 statsOf counters pending = record { counters = counters; «pending_queue_size» = min pending 256 }
@@ -24,3 +27,8 @@ onlyNext next i =
 
 abbrev pub initialIds : ℕ → SequenceIds → SequenceIds
 initialIds next i = pick (ltb 0 next) (both next (beforeNext next)) (onlyNext next i)
+
+-- a refused receipt leaves them
+abbrev pub publishedIf : Outcome → ℕ → SequenceIds → SequenceIds
+publishedIf Done id i = published id i
+publishedIf (Refused e) id i = i

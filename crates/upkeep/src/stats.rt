@@ -1,9 +1,10 @@
 // Counters and ids (document 01, 'ids and clocks').
 ghost use mathlib.Core.Path.{_≡_};
 ghost use Rattle.queue.specs.Queue.{newIds};
-ghost use Rattle.upkeep.specs.Stats.{initialIds, statsOf};
+ghost use Rattle.upkeep.specs.Stats.{initialIds, publishedIf, statsOf};
 use rules::numbers::at_most;
 use rules::rings::Rings;
+use types::answer::Outcome;
 use types::signed::saturating_sub_one;
 use types::signed::signed_of;
 use types::stats::Counters;
@@ -50,4 +51,18 @@ pub fn initial_ids(mut ids: SequenceIds, next: u64) -> SequenceIds
         ids.last_sequence_id_published = before;
     }
     ids
+}
+
+// A receipt's id becomes the published number, unless the receipt was refused.
+pub fn published_ids(mut ids: SequenceIds, answer: Outcome, id: u64) -> SequenceIds
+    ensures { λ r. ⌜ r ≡ publishedIf answer id ids ⌝ }
+{
+    match answer {
+        Outcome::Done => {
+            let published = signed_of(id);
+            ids.last_sequence_id_published = published;
+            ids
+        }
+        Outcome::Refused(_) => ids,
+    }
 }

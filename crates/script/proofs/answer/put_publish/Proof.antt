@@ -4,20 +4,38 @@ use Rattle.script.proofs.Outputs.{next}
 use Rattle.script.proofs.answer.put_publish.Statement.{statement}
 use Rattle.script.proofs.answer.put_publish.Tie as tie
 
-put-u64-requires : tie.Need-put-u64-requires
-put-u64-requires c κs = search needs
+put-entry-head-requires : tie.Need-put-entry-head-requires
+put-entry-head-requires c κs = search needs
 
-put-i32-requires : tie.Need-put-i32-requires
-put-i32-requires c κs = search needs
+enum-told : tie.Need-enum-told
+enum-told c = search needs
 
-put-u64-requires-2 : tie.Need-put-u64-requires-2
-put-u64-requires-2 c κs = search needs
+put-u8-requires : tie.Need-put-u8-requires
+put-u8-requires c κs = search needs
 
-put-u64-requires-3 : tie.Need-put-u64-requires-3
-put-u64-requires-3 c κs = search needs
+enum-told-2 : tie.Need-enum-told-2
+enum-told-2 c = search needs
 
-put-replay-requires : tie.Need-put-replay-requires
-put-replay-requires c κs = search needs
+put-u8-requires-2 : tie.Need-put-u8-requires-2
+put-u8-requires-2 c κs = search needs
+
+put-sent-requires : tie.Need-put-sent-requires
+put-sent-requires c κs = search needs
+
+enum-known-replay : tie.Need-enum-known-replay
+enum-known-replay c = search needs
+
+put-u8-requires-3 : tie.Need-put-u8-requires-3
+put-u8-requires-3 c κs = search needs
+
+put-u32-requires : tie.Need-put-u32-requires
+put-u32-requires c κs = search needs
+
+put-u32-requires-2 : tie.Need-put-u32-requires-2
+put-u32-requires-2 c κs = search needs
+
+put-sent-requires-2 : tie.Need-put-sent-requires-2
+put-sent-requires-2 c κs = search needs
 
 same-length : tie.Need-same-length
 same-length c = search needs
@@ -25,14 +43,36 @@ same-length c = search needs
 returns : tie.Need-returns
 returns c = search next
 
+same-length-2 : tie.Need-same-length-2
+same-length-2 c = search needs
+
+returns-2 : tie.Need-returns-2
+returns-2 c = search next
+
+same-length-3 : tie.Need-same-length-3
+same-length-3 c = search needs
+
+returns-3 : tie.Need-returns-3
+returns-3 c = search next
+
 pub put-publish-spec : {M : Type 1} → statement M
 put-publish-spec =
     tie.close
     (tie.spec
-    put-u64-requires
-    put-i32-requires
-    put-u64-requires-2
-    put-u64-requires-3
-    put-replay-requires
+    put-entry-head-requires
+    enum-told
+    put-u8-requires
+    enum-told-2
+    put-u8-requires-2
+    put-sent-requires
+    enum-known-replay
+    put-u8-requires-3
+    put-u32-requires
+    put-u32-requires-2
+    put-sent-requires-2
     same-length
-    returns)
+    returns
+    same-length-2
+    returns-2
+    same-length-3
+    returns-3)
