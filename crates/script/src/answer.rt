@@ -243,7 +243,7 @@ fn put_entry_head(
     put_u64(out, c, reserved)
 }
 
-// A batched entry ends with its kind, so that most receipts copy nothing of the message.
+// Of a batched entry nothing stands behind its kind.
 pub fn put_publish(out: &mut [u8], at: usize, id: u64, p: Publish) -> usize
     ensures { λ r. ⌜ Wrote at (now (out .entry)) (now (out .exit)) r ⌝ }
 {
