@@ -1,5 +1,5 @@
 -- The loops over the messages of a batch frame, which are the first of the held ring: their parts and lengths, and their items. Assumes nothing.
-use Prim.Native.Nat.{ℕ, _+_, _-_, _<_, _≤_, _^_}
+use Prim.Native.Nat.{ℕ, _+_, _<_, _≤_, _^_}
 use mathlib.Core.Bool.{Bool, true, false, _&&_}
 use mathlib.Core.List.{List, [], _∷_, _++_}
 use mathlib.Core.Path.{_≡_, refl, ap, sym, subst, _∙_}
@@ -18,6 +18,8 @@ use Rattle.wire.specs.Length.{stopped, itemLength, batchLength}
 use Rattle.wire.proofs.ItemLaws.{batch-step, all-at}
 use Rattle.queue.specs.Frame.{singleIn, allIn}
 use Rattle.laws.proofs.Choice.{and-left, and-right}
+use Rattle.frames.specs.Span.{emptySpan, withItem, batchSpan}
+use Rattle.frames.specs.declared.span.Span.{Span}
 
 and-assoc : (a b c : Bool) → (a && b && c) ≡ (a && (b && c))
 and-assoc true b c = refl
@@ -30,39 +32,43 @@ and-true false = refl
 sat-two : (a b c : ℕ) → addSat (addSat a (stopped b)) (stopped c) ≡ addSat a (stopped (b + c))
 sat-two a b c = omega arith
 
--- the messages up to i are tested and counted
-pub record Summed (n : ℕ) (ms : List SingleMessage) (inside : Bool) (len i : ℕ) : Type 0 where
-  pub all : (inside && allIn n (drop i ms)) ≡ allIn n ms
-  pub sum : addSat len (stopped (batchLength (drop i ms))) ≡ stopped (batchLength ms)
+-- the span of the messages up to i
+pub record Spans (n : ℕ) (ms : List SingleMessage) (s : Span) (i : ℕ) : Type 0 where
+  pub origin : s .start ≡ 0
+  pub small : s .len < 2 ^ 64
+  pub all : (s .inside && allIn n (drop i ms)) ≡ allIn n ms
+  pub sum : addSat (s .len) (stopped (batchLength (drop i ms))) ≡ stopped (batchLength ms)
 
-pub summed-start : (n : ℕ) (ms : List SingleMessage) → Summed n ms true 0 0
-summed-start n ms = record { all = refl; sum = omega arith }
+pub spans-start : (n : ℕ) (ms : List SingleMessage) → Spans n ms emptySpan 0
+spans-start n ms = record { origin = refl; small = omega arith; all = refl; sum = omega arith }
 
-pub summed-step : (n : ℕ) (ms : List SingleMessage) (inside : Bool) (len i : ℕ) (d : SingleMessage) → i < length ms → Summed n ms inside len i
-    → Summed n ms (inside && singleIn n (getD ms i d)) (addSat len (stopped (itemLength (getD ms i d)))) (i + 1)
+pub spans-step : (n : ℕ) (ms : List SingleMessage) (s : Span) (i : ℕ) (d : SingleMessage) → i < length ms → Spans n ms s i
+    → Spans n ms (withItem n s (getD ms i d)) (i + 1)
 unfolding batchLength
-summed-step n ms inside len i d b s =
+spans-step n ms s i d b h =
     let m = getD ms i d in
     let rest = drop (i + 1) ms in
     let e : drop i ms ≡ m ∷ rest = rw (add-one) (drop-cons ms i d b) in
-    let t : addSat len (stopped (itemLength m + batchLength rest)) ≡ stopped (batchLength ms) =
-    subst (λ (l : List SingleMessage). addSat len (stopped (batchLength l)) ≡ stopped (batchLength ms)) e (s .sum) in
+    let t : addSat (s .len) (stopped (itemLength m + batchLength rest)) ≡ stopped (batchLength ms) =
+    subst (λ (l : List SingleMessage). addSat (s .len) (stopped (batchLength l)) ≡ stopped (batchLength ms)) e (h .sum) in
     record {
-      all = and-assoc inside (singleIn n m) (allIn n rest) ∙ subst (λ (l : List SingleMessage). (inside && allIn n l) ≡ allIn n ms) e (s .all);
-      sum = sat-two len (itemLength m) (batchLength rest) ∙ t;
+      origin = h .origin;
+      small = omega arith;
+      all = and-assoc (s .inside) (singleIn n m) (allIn n rest) ∙ subst (λ (l : List SingleMessage). (s .inside && allIn n l) ≡ allIn n ms) e (h .all);
+      sum = sat-two (s .len) (itemLength m) (batchLength rest) ∙ t;
     }
 
-pub summed-all : (n : ℕ) (ms : List SingleMessage) (inside : Bool) (len i : ℕ) → length ms ≤ i → Summed n ms inside len i → inside ≡ allIn n ms
-summed-all n ms inside len i b s =
-    sym (and-true inside) ∙ subst (λ (l : List SingleMessage). (inside && allIn n l) ≡ allIn n ms) (drop-of-length-le ms b) (s .all)
-
-pub summed-len : (n : ℕ) (ms : List SingleMessage) (inside : Bool) (len i : ℕ) → length ms ≤ i → len < 2 ^ 64 → Summed n ms inside len i
-    → len ≡ stopped (batchLength ms)
+pub spans-all : (n : ℕ) (ms : List SingleMessage) (s : Span) (i : ℕ) → length ms ≤ i → Spans n ms s i → s ≡ batchSpan n ms
 unfolding batchLength
-summed-len n ms inside len i b f s =
-    let t : addSat len (stopped 0) ≡ stopped (batchLength ms) =
-    subst (λ (l : List SingleMessage). addSat len (stopped (batchLength l)) ≡ stopped (batchLength ms)) (drop-of-length-le ms b) (s .sum) in
-    omega arith
+spans-all n ms s i b h =
+    let none = drop-of-length-le ms b in
+    let inside : s .inside ≡ allIn n ms =
+    sym (and-true (s .inside)) ∙ subst (λ (l : List SingleMessage). (s .inside && allIn n l) ≡ allIn n ms) none (h .all) in
+    let t : addSat (s .len) (stopped 0) ≡ stopped (batchLength ms) =
+    subst (λ (l : List SingleMessage). addSat (s .len) (stopped (batchLength l)) ≡ stopped (batchLength ms)) none (h .sum) in
+    let small = h .small in
+    let len : s .len ≡ stopped (batchLength ms) = omega arith in
+    λ j. record { inside = inside j; start = h .origin j; len = len j }
 
 pub single-in : (n : ℕ) (m : SingleMessage) → singleIn n m ≡ true → InStore n m
 single-in n m e =

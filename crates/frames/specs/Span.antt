@@ -6,8 +6,8 @@ use lib.Dec.{leb, eqb}
 use Rattle.laws.specs.Choice.{pick}
 use Rattle.laws.specs.Numbers.{addSat}
 use Rattle.types.specs.Values.{partIn, maybeIn}
-use Rattle.wire.specs.Length.{stopped, batchLength}
-use Rattle.queue.specs.Frame.{allIn}
+use Rattle.wire.specs.Length.{stopped, itemLength, batchLength}
+use Rattle.queue.specs.Frame.{singleIn, allIn}
 use Rattle.types.specs.declared.frame.FrameRecord.{FrameRecord}
 use Rattle.types.specs.declared.frame.FrameKind.{FrameKind}
 use Rattle.types.specs.declared.frame.FrameKind.the-variants.{Single, Batch, Chunked}
@@ -46,6 +46,13 @@ abbrev pub messageSpan : ℕ → FrameRecord → Span
 messageSpan n r =
     let skip = skipOf (r .kind) in
     spanAt n (r .message) skip (pieceLen (r .kind) (r .message .payload .len) skip)
+
+abbrev pub emptySpan : Span
+emptySpan = record { inside = true; start = 0; len = 0 }
+
+abbrev pub withItem : ℕ → Span → SingleMessage → Span
+withItem n s m =
+    record { inside = s .inside && singleIn n m; start = s .start; len = addSat (s .len) (stopped (itemLength m)) }
 
 abbrev pub batchSpan : ℕ → List SingleMessage → Span
 batchSpan n ms = record { inside = allIn n ms; start = 0; len = stopped (batchLength ms) }

@@ -2,7 +2,7 @@
 ghost use mathlib.Core.Path.{_≡_};
 ghost use Prim.Native.Nat.{_≤_};
 ghost use Rattle.laws.specs.Ring.{ring};
-ghost use Rattle.frames.specs.Span.{skipOf, pieceLen, messageSpan, batchSpan, isBatch, heldCount, spanOf};
+ghost use Rattle.frames.specs.Span.{skipOf, pieceLen, messageSpan, emptySpan, withItem, batchSpan, isBatch, heldCount, spanOf};
 use crate::inside::message_inside;
 use crate::inside::piece_inside;
 use crate::inside::single_inside;
@@ -83,27 +83,43 @@ pub fn held_count(kind: FrameKind, held_len: usize) -> usize
     }
 }
 
+// Of no message.
+pub fn empty_span() -> Span
+    ensures { λ r. ⌜ r ≡ emptySpan ⌝ }
+{
+    Span {
+        inside: true,
+        start: 0,
+        len: 0,
+    }
+}
+
+// With one more message of a batch.
+pub fn with_item(span: Span, m: SingleMessage, n: usize) -> Span
+    ensures { λ r. ⌜ r ≡ withItem n span m ⌝ }
+{
+    Span {
+        inside: span.inside & single_inside(m, n),
+        start: span.start,
+        len: saturating_add(span.len, item_len(m)),
+    }
+}
+
 // Of the first `count` of the held messages.
 pub fn batch_span(held: [SingleMessage; 512], head: usize, count: usize, n: usize) -> Span
     requires { ⌜ count ≤ 512 ⌝ }
     ensures { λ r. ⌜ r ≡ batchSpan n (ring 512 held head count) ⌝ }
 {
     let h = head % 512;
-    let mut inside = true;
-    let mut len: usize = 0;
+    let mut span = empty_span();
     let mut i: usize = 0;
     while i < count {
         let at = (h + i) % 512;
         let m = held[at];
-        inside = inside & single_inside(m, n);
-        len = saturating_add(len, item_len(m));
+        span = with_item(span, m, n);
         i += 1;
     }
-    Span {
-        inside: inside,
-        start: 0,
-        len: len,
-    }
+    span
 }
 
 pub fn payload_span(

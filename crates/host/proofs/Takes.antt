@@ -12,8 +12,10 @@ use Rattle.queue.specs.Take.{written}
 use Rattle.queue.specs.Told.{toldGiving}
 use Rattle.producer.specs.Take.{frameTold, toldFrame}
 use Rattle.producer.specs.declared.take.OutboundAnswer.{OutboundAnswer}
-use Rattle.script.specs.Output.{Wrote, Completes, taken}
-use Rattle.script.proofs.Outputs.{nothing, lent}
+use Rattle.script.specs.Output.{Wrote}
+use Rattle.host.specs.Framing.{Completes, taken}
+use Rattle.script.proofs.Outputs.{nothing}
+use Rattle.host.proofs.Framing.{lent}
 
 module _ (store before after : List ℕ) (f : OutboundFrame) (l : length after ≡ length before) where
   wrote : (o : Outcome) → after ≡ written (toldGiving o (frameTold store after f)) before

@@ -1,18 +1,18 @@
 -- A take by its plan: a frame that goes out lies in the store and fits, and its payload is all that is written.
 use Prim.Native.Nat.{ℕ, _+_, _-_, _^_, _<_, _≤_, min}
 use mathlib.Core.Bool.{Bool, true, false, _&&_}
-use mathlib.Core.List.{List, _++_}
+use mathlib.Core.List.{List, _++_, append-assoc}
 use mathlib.Core.Path.{_≡_, refl, ap, sym, subst, _∙_}
 use native.Mathlib.Nat.{add-sub-cancel-left}
 use native.Mathlib.Omega.{arith}
 use borrow.Author.Tests.{ltb-false, leb-true}
 use lib.Dec.{ltb, leb, eqb}
-use lib.ListN.{length, take, drop, length-drop}
-use lib.Seq.{drop-at, length-take-le}
+use lib.ListN.{length, take, drop, length-append, length-drop}
+use lib.Seq.{take-at, drop-at, length-take-le}
 use Rattle.laws.specs.Choice.{pick}
 use Rattle.laws.specs.Numbers.{addSat}
 use Rattle.laws.proofs.Choice.{and-left, differ}
-use Rattle.types.specs.Values.{maybeIn}
+use Rattle.types.specs.Values.{partIn, maybeIn}
 use Rattle.types.specs.declared.answer.Outcome.{Outcome}
 use Rattle.types.specs.declared.answer.Outcome.the-variants.{Done, Refused}
 use Rattle.types.specs.declared.error.ProducerError.the-variants.{NoFrame, PartOutside, TooShort}
@@ -22,22 +22,25 @@ use Rattle.types.specs.declared.frame.FrameKind.the-variants.{Single, Batch, Ch
 use Rattle.types.specs.declared.message.OutgoingMessage.{OutgoingMessage}
 use Rattle.types.specs.declared.message.SingleMessage.{SingleMessage}
 use Rattle.types.specs.declared.types.ProducerHandle.{ProducerHandle}
-use Rattle.wire.specs.Batch.{batchPayload}
+use Rattle.wire.specs.Batch.{item, itemOf, InStore}
 use Rattle.wire.specs.Buffer.{Room, Puts}
-use Rattle.wire.specs.Length.{stopped, batchLength}
-use Rattle.wire.proofs.Lengths.{batch-length}
-use Rattle.queue.specs.Frame.{allIn}
-use Rattle.frames.specs.Span.{borne, nameIn, skipOf, pieceLen, spanAt, messageSpan, batchSpan}
+use Rattle.wire.specs.Length.{stopped, itemLength}
+use Rattle.wire.proofs.Lengths.{item-length}
+use Rattle.wire.proofs.Writes.{same}
+use Rattle.queue.specs.Frame.{singleIn}
+use Rattle.frames.specs.Span.{borne, nameIn, skipOf, pieceLen, spanAt, messageSpan}
 use Rattle.frames.specs.Answer.{answerOf, isDone}
 use Rattle.frames.specs.Outbound.{frameOut}
 use Rattle.frames.specs.declared.span.Span.{Span}
-use Rattle.frames.proofs.Batches.{all-in}
+use Rattle.frames.proofs.Batches.{single-in}
 use Rattle.core.specs.Take.{takePlanned}
 use Rattle.core.specs.declared.state.Core.{Core}
 use Rattle.core.specs.declared.take.TakePlan.{TakePlan}
-use Rattle.script.specs.Output.{Wrote, Completes, taken}
-use Rattle.script.proofs.Outputs.{further, lent}
-use Rattle.host.specs.Lays.{Lays, Message, Messages}
+use Rattle.script.specs.Output.{Wrote}
+use Rattle.host.specs.Framing.{Completes, taken}
+use Rattle.script.proofs.Outputs.{further}
+use Rattle.host.proofs.Framing.{lent}
+use Rattle.host.specs.Lays.{Lays, Message}
 
 -- ── what a frame that goes out has passed ──
 
@@ -100,38 +103,38 @@ part-end n r s e small i =
     subst (λ (q : Span). q .inside ≡ true → q .start + q .len ≤ n) (sym e)
     (piece-end n (r .message) (skipOf (r .kind)) (pieceLen (r .kind) (r .message .payload .len) (skipOf (r .kind))) small) i
 
--- ── the held messages of a batch ──
-
-pub batch-room : (store : List ℕ) (ms : List SingleMessage) (s : Span) (room : ℕ) → s ≡ batchSpan (length store) ms → room < 2 ^ 63 → s .inside ≡ true → s .len ≤ room
-    → (allIn (length store) ms ≡ true) × (length (batchPayload store ms) ≡ s .len)
-batch-room store ms s room e small i f =
-    let a : allIn (length store) ms ≡ true = sym (ap (λ (q : Span). q .inside) e) ∙ i in
-    let l : length (batchPayload store ms) ≡ batchLength ms = batch-length store ms (all-in (length store) ms a) in
-    let k : s .len ≡ stopped (batchLength ms) = ap (λ (q : Span). q .len) e in
-    (a, l ∙ omega arith)
-
 -- ── what is written ──
 
-pub laid : {bytes before after : List ℕ} {r : ℕ} → Puts bytes 0 before after r → length after ≡ length before → Wrote 0 before after r
-laid {bytes} {before} {after} {r} p l =
-    let z : 0 + length bytes ≡ length bytes = omega arith in
-    let e : r ≡ length bytes = p .next ∙ z in
-    let m = p .room in
+pub laid : {bytes before after : List ℕ} {at r : ℕ} → Puts bytes at before after r → Wrote at before after r
+laid {bytes} {before} {after} {at} {r} p =
+    let h = p .room in
+    let n = p .next in
+    let l : length (take at before) ≡ at = length-take-le at before (omega arith) in
+    let k : length (take at before ++ bytes) ≡ r = rw (length-append, l) (sym n) in
+    let z = drop (at + length bytes) before in
     record {
       onward = omega arith;
       within = omega arith;
-      same = l;
-      front = refl;
-      rest =
-          rw e (ap (drop (length bytes)) (p .left) ∙ drop-at bytes (drop (0 + length bytes) before) (length bytes) refl ∙ ap (λ (j : ℕ). drop j before) z);
+      same = same p;
+      front = ap (take at) (p .left ∙ append-assoc (take at before) bytes z) ∙ take-at (take at before) (bytes ++ z) at l;
+      rest = ap (drop r) (p .left) ∙ drop-at (take at before ++ bytes) z r k ∙ ap (λ (j : ℕ). drop j before) (sym n);
     }
 
-pub lays : {bytes before after : List ℕ} {r n : ℕ} (d : Bool) → d ≡ true → length bytes ≡ n → Puts bytes 0 before after r → length after ≡ length before → Lays d n before after r
-lays {bytes} {before} {after} {r} {n} d e k p l =
+pub lays : {bytes before after : List ℕ} {r n : ℕ} (d : Bool) → d ≡ true → length bytes ≡ n → Puts bytes 0 before after r → Lays d n before after r
+lays {bytes} {before} {after} {r} {n} d e k p =
     let x : 0 + length bytes ≡ n = omega arith in
-    record { wrote = laid p l; size = p .next ∙ x ∙ sym (ap (λ (b : Bool). pick b n 0) e) }
+    record { wrote = laid p; size = p .next ∙ x ∙ sym (ap (λ (b : Bool). pick b n 0) e) }
 
 -- ── what can be laid out ──
+
+pub held-room : (store out : List ℕ) (m : SingleMessage) (at : ℕ) → singleIn (length store) m ≡ true
+    → partIn (length out) (record { start = at; len = stopped (itemLength m) }) ≡ true → length out < 2 ^ 63
+    → InStore (length store) m × Room (item (itemOf store m)) at out
+held-room store out m at i p small =
+    let s = single-in (length store) m i in
+    let l = item-length store m s in
+    let b = leb-true (at + stopped (itemLength m)) (length out) p in
+    (s, record { fits = omega arith })
 
 pub part-length : (store : List ℕ) (s : Span) → s .start + s .len ≤ length store → length (take (s .start + s .len - s .start) (drop (s .start) store)) ≡ s .len
 part-length store s h = rw add-sub-cancel-left (length-take-le (s .len) (drop (s .start) store) (rw length-drop (omega arith)))
@@ -150,22 +153,6 @@ module _ (store d : List ℕ) (start end : ℕ) (h : start ≤ end) (k : end ≤
       let f = g .fits in
       let l = buffer-length in
       record { inside = part-end (length store) r s e small (g .inside); room = omega arith }
-
-  pub messages : (ms : List SingleMessage) → s ≡ batchSpan (length store) ms → length d < 2 ^ 63 → Messages store ms (take (end - start) (drop start d))
-  messages ms e small =
-      let g = goes c r s count (end - start) p planned t in
-      let b = batch-room store ms s (end - start) e (omega arith) (g .inside) (g .fits) in
-      let f = g .fits in
-      let l = buffer-length in
-      let x = b .1 in
-      record { inside = b .0; room = record { fits = omega arith } }
-
-  pub all-taken : (ms : List SingleMessage) → s ≡ batchSpan (length store) ms → length d < 2 ^ 63
-      → length (batchPayload store ms) ≤ taken (p .answer) (p .frame .«payload_len») (end - start)
-  all-taken ms e small =
-      let g = goes c r s count (end - start) p planned t in
-      let b = batch-room store ms s (end - start) e (omega arith) (g .inside) (g .fits) in
-      rw (b .1) (g .written)
 
 -- no more is laid out than the answer says
 laid-small : (d : Bool) (len n : ℕ) → (d ≡ true → len ≤ n) → pick d len 0 ≤ n

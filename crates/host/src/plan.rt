@@ -1,5 +1,5 @@
 // The operations that need no ring, on the scalars: settings, ids, queries and the flush; and what a receipt or an error does to
-// the scalars. The same plans as those of the public methods.
+// the ids. The same plans as those of the public methods.
 use crate::arguments::name_bytes_at;
 use crate::arguments::setting_at;
 use crate::call::put_len;
@@ -21,9 +21,11 @@ use script::write::put_i32;
 use script::write::put_message_id;
 use types::answer::Outcome;
 use types::error::ProducerError;
+use types::stats::SequenceIds;
 use types::types::MessageId;
 use upkeep::deadline::elapsed;
 use upkeep::stats::outbound_len_of;
+use upkeep::stats::published_ids;
 use upkeep::stats::stats_of;
 ghost use mathlib.Core.Path.{_≡_};
 ghost use Prim.Native.Nat.{_<_};
@@ -148,14 +150,14 @@ pub(crate) fn plan(
 
 // ---- receipts and errors ----
 
-// The scalars once the entry at a place has left.
-pub(crate) fn settled(c: Core, place: usize, code: u8, id: u64) -> Core {
+// The ids once an entry has left by a receipt or by an error.
+pub(crate) fn settled_ids(ids: SequenceIds, code: u8, id: u64) -> SequenceIds {
     let answer = if code == 0x05 {
         Outcome::Done
     } else {
         Outcome::Refused(ProducerError::NotAnswerable)
     };
-    c.without_entry(place).published(answer, id)
+    published_ids(ids, answer, id)
 }
 
 // What an answer has in front of the entry that left: the message id of a receipt, or the error's code.

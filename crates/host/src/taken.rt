@@ -1,29 +1,29 @@
-// The take by its plan, of a frame with a message or a chunk and of a batch frame. The output itself is the buffer, as in `take`.
-use crate::take::CODE;
+// The take by its plan: of a frame with a message or a chunk as a whole, of a batch frame its messages one by one. The output
+// itself is the buffer, as in `take`.
+use crate::take::put_taken;
 use crate::take::up_to;
 use core::state::Core;
 use core::take::TakePlan;
-use frames::payload::put_batch;
+use frames::inside::single_inside;
 use frames::span::Span;
-use frames::span::batch_span;
-use frames::span::held_count;
 use frames::span::message_span;
-use script::answer::put_taken;
+use rules::bounds::part_in;
 use script::read::behind;
 use script::read::lent_of;
 use script::read::u64_at;
 use script::read::usize_at;
 use types::frame::FrameRecord;
+use types::message::Part;
 use types::message::SingleMessage;
+use wire::batch::item_len;
+use wire::batch::put_item;
 use wire::copy::copy;
 ghost use mathlib.Core.Path.{_≡_};
 ghost use Prim.Native.Nat.{_≤_};
 ghost use lib.ListN.{length};
 ghost use mathlib.Core.Bool.{true};
-ghost use Rattle.laws.specs.Ring.{ring};
-ghost use Rattle.wire.specs.Batch.{batchPayload};
 ghost use Rattle.script.specs.Output.{Wrote};
-ghost use Rattle.host.specs.Lays.{Message, Messages, Lays};
+ghost use Rattle.host.specs.Lays.{Message, Lays};
 
 // What then stands in the front record's slot, the scalars, and the place behind the answer.
 pub(crate) struct Taken {
@@ -66,24 +66,6 @@ fn lay_message(buffer: &mut [u8], store: &[u8], span: Span, done: bool) -> usize
     }
 }
 
-fn lay_batch(
-    buffer: &mut [u8],
-    store: &[u8],
-    held: [SingleMessage; 512],
-    head: usize,
-    count: usize,
-    done: bool,
-) -> usize
-    requires { ⌜ (count ≤ 512) × (done ≡ true → Messages (now store) (ring 512 held head count) (now buffer)) ⌝ }
-    ensures { λ r. ⌜ Lays done (length (batchPayload (now (store .entry)) (ring 512 held head count))) (now (buffer .entry)) (now (buffer .exit)) r ⌝ }
-{
-    if done {
-        put_batch(buffer, store, held, head, count)
-    } else {
-        0
-    }
-}
-
 pub(crate) fn take_message(
     c: Core,
     front: FrameRecord,
@@ -104,34 +86,22 @@ pub(crate) fn take_message(
     let answer = plan.answer;
     let frame = plan.frame;
     lay_message(&mut out[start..end], lent, span, plan.done);
-    let behind_answer = put_taken(out, to, start, end, CODE, lent, answer, frame);
+    let behind_answer = put_taken(out, to, start, end, lent, answer, frame);
     finish(c, front, plan, behind_answer)
 }
 
-pub(crate) fn take_batch(
-    c: Core,
-    front: FrameRecord,
-    held: [SingleMessage; 512],
-    script: &[u8],
-    at: usize,
-    store: &[u8],
-    out: &mut [u8],
-    to: usize,
-) -> Taken
-    requires { ⌜ to ≤ length (now out) ⌝ }
-    ensures { λ r. ⌜ Wrote to (now (out .entry)) (now (out .exit)) (r .to) ⌝ }
+// One message of a batch, as the writers of `script` do it: where it has no room, or not all of it lies in the store, nothing is
+// written. Of a frame that goes out every message has been found to lie there and to fit.
+pub(crate) fn put_held(out: &mut [u8], at: usize, store: &[u8], m: SingleMessage) -> usize
+    ensures { λ r. ⌜ Wrote at (now (out .entry)) (now (out .exit)) r ⌝ }
 {
-    let lent = lent_of(store, u64_at(script, behind(at, 9)));
-    let start = up_to(out.len(), to, 10);
-    let end = up_to(out.len(), start, usize_at(script, behind(at, 1)));
-    let kind = front.kind;
-    let head = c.rings.held_head;
-    let count = held_count(kind, c.rings.held_len);
-    let span = batch_span(held, head, count, lent.len());
-    let plan = c.plan_take(front, span, count, end - start);
-    let answer = plan.answer;
-    let frame = plan.frame;
-    lay_batch(&mut out[start..end], lent, held, head, count, plan.done);
-    let behind_answer = put_taken(out, to, start, end, CODE, lent, answer, frame);
-    finish(c, front, plan, behind_answer)
+    let room = Part {
+        start: at,
+        len: item_len(m),
+    };
+    if single_inside(m, store.len()) & part_in(out.len(), room) {
+        put_item(out, at, store, m)
+    } else {
+        at
+    }
 }

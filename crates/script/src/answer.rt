@@ -38,16 +38,13 @@ use types::optional::MaybeU64;
 use types::outbound::CommandSend;
 use types::outbound::FrameName;
 use types::outbound::MessageMetadata;
-use types::outbound::OutboundFrame;
 use types::outbound::UuidText;
 use types::settings::Limits;
 use types::settings::ProducerSettings;
 use types::stats::Counters;
 use types::stats::ProducerStats;
 use types::stats::SequenceIds;
-ghost use Prim.Native.Nat.{_+_, _-_, _≤_};
-ghost use lib.ListN.{length};
-ghost use Rattle.script.specs.Output.{Wrote, Completes, taken};
+ghost use Rattle.script.specs.Output.{Wrote};
 
 pub const END: u8 = 0xFF;
 
@@ -227,51 +224,51 @@ fn put_sent(out: &mut [u8], at: usize, p: Publish) -> usize
     put_raw(out, c, &uuid)
 }
 
-fn put_entry_head(
-    out: &mut [u8],
-    at: usize,
-    id: u64,
-    num_messages: i32,
-    enqueued_at: u64,
-    reserved: u64,
-) -> usize
+fn put_replay(out: &mut [u8], at: usize, replay: Replay) -> usize
     ensures { λ r. ⌜ Wrote at (now (out .entry)) (now (out .exit)) r ⌝ }
 {
-    let a = put_u64(out, at, id);
-    let b = put_i32(out, a, num_messages);
-    let c = put_u64(out, b, enqueued_at);
-    put_u64(out, c, reserved)
-}
-
-// Of a batched entry nothing stands behind its kind.
-pub fn put_publish(out: &mut [u8], at: usize, id: u64, p: Publish) -> usize
-    ensures { λ r. ⌜ Wrote at (now (out .entry)) (now (out .exit)) r ⌝ }
-{
-    let reservation = p.reservation;
-    let replay = p.replay;
-    let to = put_entry_head(
-        out,
-        at,
-        id,
-        p.num_messages,
-        p.enqueued_at,
-        reservation.bytes,
-    );
     match replay {
-        Replay::Batched => put_u8(out, to, 0),
-        Replay::Single => {
-            let kind = put_u8(out, to, 1);
-            put_sent(out, kind, p)
-        }
+        Replay::Batched => put_u8(out, at, 0),
+        Replay::Single => put_u8(out, at, 1),
         Replay::Chunked {
             total_chunks,
             max_chunk_size,
         } => {
-            let kind = put_u8(out, to, 2);
+            let kind = put_u8(out, at, 2);
             let size = put_u32(out, kind, max_chunk_size);
-            let count = put_u32(out, size, total_chunks);
-            put_sent(out, count, p)
+            put_u32(out, size, total_chunks)
         }
+    }
+}
+
+fn put_entry_head(out: &mut [u8], at: usize, id: u64, p: Publish) -> usize
+    ensures { λ r. ⌜ Wrote at (now (out .entry)) (now (out .exit)) r ⌝ }
+{
+    let reservation = p.reservation;
+    let replay = p.replay;
+    let a = put_u64(out, at, id);
+    let b = put_i32(out, a, p.num_messages);
+    let c = put_u64(out, b, p.enqueued_at);
+    let d = put_u64(out, c, reservation.bytes);
+    put_replay(out, d, replay)
+}
+
+fn put_framed(out: &mut [u8], at: usize, id: u64, p: Publish) -> usize
+    ensures { λ r. ⌜ Wrote at (now (out .entry)) (now (out .exit)) r ⌝ }
+{
+    let to = put_entry_head(out, at, id, p);
+    put_sent(out, to, p)
+}
+
+// Of a batched entry nothing stands behind its kind. The kind is asked first, since an entry that is handed on once something is
+// written has to be copied.
+pub fn put_publish(out: &mut [u8], at: usize, id: u64, p: Publish) -> usize
+    ensures { λ r. ⌜ Wrote at (now (out .entry)) (now (out .exit)) r ⌝ }
+{
+    let replay = p.replay;
+    match replay {
+        Replay::Batched => put_entry_head(out, at, id, p),
+        _ => put_framed(out, at, id, p),
     }
 }
 
@@ -313,7 +310,7 @@ fn put_command_rest(out: &mut [u8], at: usize, c: CommandSend) -> usize
     put_maybe_id_data(out, d, message_id)
 }
 
-fn put_command(out: &mut [u8], at: usize, c: CommandSend) -> usize
+pub fn put_command(out: &mut [u8], at: usize, c: CommandSend) -> usize
     ensures { λ r. ⌜ Wrote at (now (out .entry)) (now (out .exit)) r ⌝ }
 {
     let producer = c.producer_id;
@@ -411,7 +408,7 @@ fn put_metadata_chunk(out: &mut [u8], at: usize, m: MessageMetadata) -> usize
     put_maybe_bool(out, c, null_partition_key)
 }
 
-fn put_metadata(out: &mut [u8], at: usize, store: &[u8], m: MessageMetadata) -> usize
+pub fn put_metadata(out: &mut [u8], at: usize, store: &[u8], m: MessageMetadata) -> usize
     ensures { λ r. ⌜ Wrote at (now (out .entry)) (now (out .exit)) r ⌝ }
 {
     let start = put_metadata_start(out, at, store, m);
@@ -419,58 +416,6 @@ fn put_metadata(out: &mut [u8], at: usize, store: &[u8], m: MessageMetadata) -> 
     let parts = put_metadata_parts(out, sizes, store, m);
     let marks = put_metadata_marks(out, parts, m);
     put_metadata_chunk(out, marks, m)
-}
-
-// The head of a frame's answer, into the bytes before its payload.
-fn put_frame_head(out: &mut [u8], code: u8, n: usize) -> usize
-    ensures { λ r. ⌜ Wrote 0 (now (out .entry)) (now (out .exit)) r ⌝ }
-{
-    let to = put_status(out, 0, code, 0);
-    put_usize(out, to, n)
-}
-
-// A frame whose payload, `n` bytes, stands from `start` on already.
-fn put_frame(
-    out: &mut [u8],
-    at: usize,
-    start: usize,
-    n: usize,
-    code: u8,
-    store: &[u8],
-    frame: OutboundFrame,
-) -> usize
-    requires { ⌜ (at ≤ start) × (start + n ≤ length (now out)) ⌝ }
-    ensures { λ r. ⌜ Completes at start n (now (out .entry)) (now (out .exit)) r ⌝ }
-{
-    let command = frame.command;
-    let metadata = frame.metadata;
-    put_frame_head(&mut out[at..start], code, n);
-    let behind = start + n;
-    let to = put_command(out, behind, command);
-    put_metadata(out, to, store, metadata)
-}
-
-// The answer of a take that was lent the output from `start` to `end` as its buffer.
-pub fn put_taken(
-    out: &mut [u8],
-    at: usize,
-    start: usize,
-    end: usize,
-    code: u8,
-    store: &[u8],
-    answer: Outcome,
-    frame: OutboundFrame,
-) -> usize
-    requires { ⌜ (at ≤ start) × ((start ≤ end) × (end ≤ length (now out))) ⌝ }
-    ensures { λ r. ⌜ Completes at start (taken answer (frame .«payload_len») (end - start)) (now (out .entry)) (now (out .exit)) r ⌝ }
-{
-    match answer {
-        Outcome::Done => {
-            let n = at_most(frame.payload_len, end - start);
-            put_frame(out, at, start, n, code, store, frame)
-        }
-        Outcome::Refused(e) => put_refusal(out, at, code, e),
-    }
 }
 
 // ---- the dump's scalars ----

@@ -26,7 +26,7 @@ same-length : tie.Need-same-length
 same-length c = search needs
 
 returns : tie.Need-returns
-returns c = lays _ (c .before .before .before .before .before .before .if1 .taken) (part-length _ (c .before .before .before .before .before .before .before .before .before .args .span) (c .before .before .before .before .before .before .before .before .before .pre (c .before .before .before .before .before .before .if1 .taken) .inside)) (c .before .before .copy .ensures) (search needs)
+returns c = lays _ (c .before .before .before .before .before .before .if1 .taken) (part-length _ (c .before .before .before .before .before .before .before .before .before .args .span) (c .before .before .before .before .before .before .before .before .before .pre (c .before .before .before .before .before .before .if1 .taken) .inside)) (c .before .before .copy .ensures)
 
 returns-2 : tie.Need-returns-2
 returns-2 c = search needs

@@ -16,6 +16,9 @@ put-u64-requires-2 c κs = search needs
 put-u64-requires-3 : tie.Need-put-u64-requires-3
 put-u64-requires-3 c κs = search needs
 
+put-replay-requires : tie.Need-put-replay-requires
+put-replay-requires c κs = search needs
+
 same-length : tie.Need-same-length
 same-length c = search needs
 
@@ -30,5 +33,6 @@ put-entry-head-spec =
     put-i32-requires
     put-u64-requires-2
     put-u64-requires-3
+    put-replay-requires
     same-length
     returns)

@@ -1,11 +1,8 @@
--- `script::answer::put_publish`: its writes one after the other.
+-- `script::answer::put_replay`: its writes one after the other.
 use borrow.Author.Needs.{needs}
 use Rattle.script.proofs.Outputs.{next}
-use Rattle.script.proofs.answer.put_publish.Statement.{statement}
-use Rattle.script.proofs.answer.put_publish.Tie as tie
-
-put-entry-head-requires : tie.Need-put-entry-head-requires
-put-entry-head-requires c κs = search needs
+use Rattle.script.proofs.answer.put_replay.Statement.{statement}
+use Rattle.script.proofs.answer.put_replay.Tie as tie
 
 enum-told : tie.Need-enum-told
 enum-told c = search needs
@@ -19,9 +16,6 @@ enum-told-2 c = search needs
 put-u8-requires-2 : tie.Need-put-u8-requires-2
 put-u8-requires-2 c κs = search needs
 
-put-sent-requires : tie.Need-put-sent-requires
-put-sent-requires c κs = search needs
-
 enum-known-replay : tie.Need-enum-known-replay
 enum-known-replay c = search needs
 
@@ -34,20 +28,17 @@ put-u32-requires c κs = search needs
 put-u32-requires-2 : tie.Need-put-u32-requires-2
 put-u32-requires-2 c κs = search needs
 
-put-sent-requires-2 : tie.Need-put-sent-requires-2
-put-sent-requires-2 c κs = search needs
-
 same-length : tie.Need-same-length
 same-length c = search needs
 
 returns : tie.Need-returns
-returns c = search next
+returns c = search needs
 
 same-length-2 : tie.Need-same-length-2
 same-length-2 c = search needs
 
 returns-2 : tie.Need-returns-2
-returns-2 c = search next
+returns-2 c = search needs
 
 same-length-3 : tie.Need-same-length-3
 same-length-3 c = search needs
@@ -55,21 +46,18 @@ same-length-3 c = search needs
 returns-3 : tie.Need-returns-3
 returns-3 c = search next
 
-pub put-publish-spec : {M : Type 1} → statement M
-put-publish-spec =
+pub put-replay-spec : {M : Type 1} → statement M
+put-replay-spec =
     tie.close
     (tie.spec
-    put-entry-head-requires
     enum-told
     put-u8-requires
     enum-told-2
     put-u8-requires-2
-    put-sent-requires
     enum-known-replay
     put-u8-requires-3
     put-u32-requires
     put-u32-requires-2
-    put-sent-requires-2
     same-length
     returns
     same-length-2

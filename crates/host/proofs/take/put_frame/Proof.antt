@@ -1,8 +1,9 @@
--- `script::answer::put_frame`: a head before the payload that stands, and the rest behind.
+-- `host::take::put_frame`: a head before the payload that stands, and the rest behind.
 use borrow.Author.Needs.{needs}
-use Rattle.script.proofs.Outputs.{next, framed}
-use Rattle.script.proofs.answer.put_frame.Statement.{statement}
-use Rattle.script.proofs.answer.put_frame.Tie as tie
+use Rattle.script.proofs.Outputs.{next}
+use Rattle.host.proofs.Framing.{framed}
+use Rattle.host.proofs.take.put_frame.Statement.{statement}
+use Rattle.host.proofs.take.put_frame.Tie as tie
 
 sub-put-frame-head : tie.Need-sub-put-frame-head
 sub-put-frame-head c = search needs

@@ -1,8 +1,8 @@
--- `script::answer::put_frame_head`: its writes one after the other.
+-- `host::take::put_frame_head`: its writes one after the other.
 use borrow.Author.Needs.{needs}
 use Rattle.script.proofs.Outputs.{next}
-use Rattle.script.proofs.answer.put_frame_head.Statement.{statement}
-use Rattle.script.proofs.answer.put_frame_head.Tie as tie
+use Rattle.host.proofs.take.put_frame_head.Statement.{statement}
+use Rattle.host.proofs.take.put_frame_head.Tie as tie
 
 put-status-requires : tie.Need-put-status-requires
 put-status-requires c κs = search needs

@@ -1,12 +1,12 @@
--- `script::answer::put_taken`: around a payload that was taken, or from the start.
+-- `host::take::put_taken`: around a payload that was taken, or from the start.
 use borrow.Author.Needs.{needs}
 use Prim.Native.Nat.{_-_}
 use mathlib.Core.Path.{_≡_, ap, sym, _∙_}
 use Rattle.types.specs.declared.answer.Outcome.{Outcome}
-use Rattle.script.specs.Output.{taken}
-use Rattle.script.proofs.Outputs.{none-stands}
-use Rattle.script.proofs.answer.put_taken.Statement.{statement}
-use Rattle.script.proofs.answer.put_taken.Tie as tie
+use Rattle.host.specs.Framing.{taken}
+use Rattle.host.proofs.Framing.{none-stands}
+use Rattle.host.proofs.take.put_taken.Statement.{statement}
+use Rattle.host.proofs.take.put_taken.Tie as tie
 
 enum-told : tie.Need-enum-told
 enum-told c = search needs
