@@ -260,8 +260,7 @@ fn put_framed(out: &mut [u8], at: usize, id: u64, p: Publish) -> usize
     put_sent(out, to, p)
 }
 
-// Of a batched entry nothing stands behind its kind. The kind is asked first, since an entry that is handed on once something is
-// written has to be copied.
+// Of a batched entry nothing stands behind its kind.
 pub fn put_publish(out: &mut [u8], at: usize, id: u64, p: Publish) -> usize
     ensures { λ r. ⌜ Wrote at (now (out .entry)) (now (out .exit)) r ⌝ }
 {
