@@ -1,5 +1,7 @@
 // The cases of document 01, executed: each line is a case's name and what the code answers. The file `stdout` has the
 // answers of the document. The cases that it marks with a star are proved besides, in specs/Rows.antt.
+#![tactic(auto)]
+
 mod print;
 mod sends;
 

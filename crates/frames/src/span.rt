@@ -10,7 +10,7 @@ use types::message::SingleMessage;
 use wire::batch::item_len;
 
 // The payload of the front frame.
-#[derive(Drop)]
+#[derive(Clone, Copy)]
 pub struct Span {
     // Whether all that the frame bears lies in the store.
     pub inside: bool,

@@ -19,7 +19,7 @@ use types::entry::OpSend;
 use types::types::MessageId;
 
 // The state after an operation, and the place behind its answer.
-#[derive(Drop)]
+#[derive(Clone, Copy)]
 pub struct Called {
     pub state: ProducerState,
     pub to: usize,

@@ -22,7 +22,7 @@ use types::types::ProducerHandle;
 use upkeep::pending::{Found, locate};
 
 // How an operation is carried out.
-#[derive(Drop)]
+#[derive(Clone, Copy)]
 enum Drive {
     Send,
     Take,

@@ -18,7 +18,7 @@ use types::entry::OpSend;
 use types::types::SequenceId;
 
 // A table, and how many of its entries count.
-#[derive(Drop)]
+#[derive(Clone, Copy)]
 pub(crate) struct Entries {
     pub table: [OpSend; 257],
     pub len: usize,
@@ -51,7 +51,7 @@ fn room_at(script: &[u8], at: usize) -> usize
 }
 
 // The state after an operation, the replay table of the last snapshot, and the place behind the answer.
-#[derive(Drop)]
+#[derive(Clone, Copy)]
 pub(crate) struct Lent {
     pub state: ProducerState,
     pub last: Entries,
@@ -60,7 +60,7 @@ pub(crate) struct Lent {
 
 // ---- drains ----
 
-#[derive(Drop)]
+#[derive(Clone, Copy)]
 struct Drained {
     answer: CountOutcome,
     table: [OpSend; 257],
@@ -144,7 +144,7 @@ fn call_drain(
 
 // ---- the snapshot ----
 
-#[derive(Drop)]
+#[derive(Clone, Copy)]
 struct Snapped {
     answer: Outcome,
     dropped: Entries,

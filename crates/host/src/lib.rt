@@ -1,4 +1,6 @@
 // Carries scripts out on a producer and writes the answers (docs/SCRIPT.md).
+#![tactic(auto)]
+
 mod arguments;
 mod call;
 mod dump;

@@ -19,7 +19,7 @@ use upkeep::deadline::elapsed;
 use upkeep::stats::{outbound_len_of, published_ids, stats_of};
 
 // The scalars after an operation, the frame that it pushes, if any, and the place behind its answer.
-#[derive(Drop)]
+#[derive(Clone, Copy)]
 pub(crate) struct Planned {
     pub core: Core,
     pub frame: FramePut,

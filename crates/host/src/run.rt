@@ -28,7 +28,7 @@ fn fits(room: u64, len: usize, to: usize) -> bool {
 
 // Where a run stands: the code of the operation that is next and the place behind it, or that it has ended; and the place behind
 // what is written.
-#[derive(Drop)]
+#[derive(Clone, Copy)]
 pub(crate) struct Step {
     pub ended: bool,
     pub code: u8,

@@ -17,7 +17,7 @@ use wire::batch::{item_len, put_item};
 use wire::copy::copy;
 
 // What then stands in the front record's slot, the scalars, and the place behind the answer.
-#[derive(Drop)]
+#[derive(Clone, Copy)]
 pub(crate) struct Taken {
     pub slot: FrameRecord,
     pub core: Core,

@@ -12,7 +12,7 @@ use types::message::OutgoingMessage;
 use types::way::Way;
 
 // What becomes of a send. One that 6 refuses goes its way, which may flush.
-#[derive(Drop)]
+#[derive(Clone, Copy)]
 pub enum SendPlan {
     Refuse(ProducerError),
     Go(Way),

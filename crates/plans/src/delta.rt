@@ -16,7 +16,7 @@ use types::signed::signed_of;
 use types::types::SequenceId;
 
 // A frame record, and whether and where it is stored.
-#[derive(Drop)]
+#[derive(Clone, Copy)]
 pub struct FramePut {
     pub put: bool,
     pub at: usize,
@@ -24,7 +24,7 @@ pub struct FramePut {
 }
 
 // A pending entry in its three parts.
-#[derive(Drop)]
+#[derive(Clone, Copy)]
 pub struct EntryPut {
     pub put: bool,
     pub at: usize,
@@ -34,7 +34,7 @@ pub struct EntryPut {
 }
 
 // A message that joins the open batch.
-#[derive(Drop)]
+#[derive(Clone, Copy)]
 pub struct HeldPut {
     pub put: bool,
     pub at: usize,
@@ -42,7 +42,7 @@ pub struct HeldPut {
 }
 
 // Of a send. `first` is the batch that is flushed before; `second` is the message's own frame, or the batch that it filled.
-#[derive(Drop)]
+#[derive(Clone, Copy)]
 pub struct SendDelta {
     pub answer: SendDecision,
     pub core: Core,
@@ -53,7 +53,7 @@ pub struct SendDelta {
 }
 
 // Of a flush.
-#[derive(Drop)]
+#[derive(Clone, Copy)]
 pub struct FlushDelta {
     pub answer: CountOutcome,
     pub core: Core,
@@ -61,19 +61,19 @@ pub struct FlushDelta {
 }
 
 // The scalars after one push, and the push.
-#[derive(Drop)]
+#[derive(Clone, Copy)]
 pub struct Pushed {
     pub core: Core,
     pub frame: FramePut,
 }
 
-#[derive(Drop)]
+#[derive(Clone, Copy)]
 pub struct Accepted {
     pub core: Core,
     pub entry: EntryPut,
 }
 
-#[derive(Drop)]
+#[derive(Clone, Copy)]
 pub struct Held {
     pub core: Core,
     pub held: HeldPut,

@@ -1,5 +1,7 @@
 // The scalars of a producer, and a plan for each operation: what it answers, the scalars after it, and which records go where.
 // A plan sees the few records that it needs and never an array.
+#![tactic(auto)]
+
 pub mod batch;
 pub mod choose;
 pub mod delta;

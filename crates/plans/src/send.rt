@@ -18,7 +18,7 @@ use types::types::SequenceId;
 use types::way::Way;
 
 // What a send brings.
-#[derive(Drop)]
+#[derive(Clone, Copy)]
 pub struct Sending {
     pub message: OutgoingMessage,
     pub reservation: MemoryReservation,
@@ -29,7 +29,7 @@ pub struct Sending {
 }
 
 // A message in a frame of its own.
-#[derive(Drop)]
+#[derive(Clone, Copy)]
 pub struct Emitted {
     pub core: Core,
     pub frame: FramePut,
@@ -37,7 +37,7 @@ pub struct Emitted {
 }
 
 // A message in the open batch.
-#[derive(Drop)]
+#[derive(Clone, Copy)]
 pub struct Joined {
     pub core: Core,
     pub entry: EntryPut,

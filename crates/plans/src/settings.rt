@@ -8,7 +8,7 @@ use types::error::ProducerError;
 use types::settings::Setting;
 use upkeep::settings::{allows, allows_name, closed_settings, name_from, with_setting};
 
-#[derive(Drop)]
+#[derive(Clone, Copy)]
 pub struct SetPlan {
     pub answer: Outcome,
     pub core: Core,

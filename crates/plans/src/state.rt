@@ -10,7 +10,7 @@ use types::types::ProducerHandle;
 use upkeep::settings::new_settings;
 use upkeep::stats::new_ids;
 
-#[derive(Drop)]
+#[derive(Clone, Copy)]
 pub struct Core {
     pub handle: ProducerHandle,
     pub settings: ProducerSettings,

@@ -12,7 +12,7 @@ use types::answer::Outcome;
 use types::frame::FrameRecord;
 use types::outbound::OutboundFrame;
 
-#[derive(Drop)]
+#[derive(Clone, Copy)]
 pub struct TakePlan {
     pub answer: Outcome,
     // Whether the frame goes out. On a refusal what follows means nothing.

@@ -23,7 +23,7 @@ use types::error::ProducerError;
 use types::optional::MaybeU64;
 
 // How many entries each table was given. On a refusal the counts mean nothing.
-#[derive(Drop)]
+#[derive(Clone, Copy)]
 pub struct SnapshotAnswer {
     pub answer: Outcome,
     pub dropped: usize,

@@ -1,4 +1,6 @@
 // The send queue of a producer. Each operation is planned on the scalars (crate core) and applied to the rings.
+#![tactic(auto)]
+
 pub mod apply;
 pub mod drain;
 pub mod pending;

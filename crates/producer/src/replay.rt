@@ -17,7 +17,7 @@ use tables::unborne::unborne;
 use types::answer::{CountOutcome, Outcome};
 use types::entry::OpSend;
 
-#[derive(Drop)]
+#[derive(Clone, Copy)]
 pub struct ReplayAnswer {
     pub answer: Outcome,
     pub state: ProducerState,

@@ -12,14 +12,14 @@ use types::answer::{CountOutcome, SendDecision};
 use types::memory_limit::MemoryReservation;
 use types::message::OutgoingMessage;
 
-#[derive(Drop)]
+#[derive(Clone, Copy)]
 pub struct SendAnswer {
     pub answer: SendDecision,
     pub state: ProducerState,
 }
 
 // Of a flush, a drain or a replay of what is pending.
-#[derive(Drop)]
+#[derive(Clone, Copy)]
 pub struct CountAnswer {
     pub answer: CountOutcome,
     pub state: ProducerState,

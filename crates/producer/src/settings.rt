@@ -9,7 +9,7 @@ use crate::state::ProducerState;
 use types::answer::Outcome;
 use types::settings::Setting;
 
-#[derive(Drop)]
+#[derive(Clone, Copy)]
 pub struct SetAnswer {
     pub answer: Outcome,
     pub state: ProducerState,

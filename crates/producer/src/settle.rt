@@ -19,7 +19,7 @@ use types::types::{MessageId, SequenceId};
 use upkeep::pending::{Found, locate, unmark};
 
 // The entry that left, and the state without it; or the state as it was, where the id is not answerable.
-#[derive(Drop)]
+#[derive(Clone, Copy)]
 pub struct Settled {
     pub answer: Outcome,
     pub op: OpSend,
@@ -27,7 +27,7 @@ pub struct Settled {
 }
 
 // On a refusal the entry and the message id mean nothing.
-#[derive(Drop)]
+#[derive(Clone, Copy)]
 pub struct ReceiptAnswer {
     pub answer: Outcome,
     pub op: OpSend,
@@ -35,7 +35,7 @@ pub struct ReceiptAnswer {
     pub state: ProducerState,
 }
 
-#[derive(Drop)]
+#[derive(Clone, Copy)]
 pub struct ErrorAnswer {
     pub answer: Outcome,
     pub op: OpSend,

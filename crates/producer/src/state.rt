@@ -12,7 +12,7 @@ use types::message::{MaybePart, Part, SingleMessage};
 use types::optional::{MaybeBool, MaybeU64};
 use types::types::{ProducerHandle, SequenceId};
 
-#[derive(Drop)]
+#[derive(Clone, Copy)]
 pub struct ProducerState {
     pub core: Core,
     // The waiting frames; the waiting chunks of one message are one record.

@@ -12,7 +12,7 @@ use types::answer::Outcome;
 use types::outbound::OutboundFrame;
 
 // On a refusal the frame means nothing.
-#[derive(Drop)]
+#[derive(Clone, Copy)]
 pub struct OutboundAnswer {
     pub answer: Outcome,
     pub frame: OutboundFrame,

@@ -1,5 +1,7 @@
 // Replays the recorded answers of the Rust (docs/SCRIPT.md, 'The recorded sample'): how many records there are, which do not
 // agree, and how many agree.
+#![tactic(auto)]
+
 ghost use Rattle.std.specs.Prelude.{◌≤◌, length};
 
 use host::run::run_script;

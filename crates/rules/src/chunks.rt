@@ -6,7 +6,7 @@ ghost use Rattle.rules.specs.Chunks.{cut_of};
 use crate::numbers::at_most;
 
 // Chunks of this size, so many.
-#[derive(Drop)]
+#[derive(Clone, Copy)]
 pub struct Cut {
     pub max_chunk_size: u32,
     pub total_chunks: u32,

@@ -1,5 +1,7 @@
 // Functions on plain values that a send and a replay are made of: numbers, bounds, chunks, the tests of a batch and of a way, and
 // places in rings.
+#![tactic(auto)]
+
 pub mod batch;
 pub mod blank;
 pub mod bounds;

@@ -5,7 +5,7 @@ ghost use Rattle.rules.specs.Rings.{capacity_of, place_of, place_before, head_af
 use crate::numbers::at_most;
 
 // Any numbers will do: a head is read as `head % N`, a length as `min(len, N)`.
-#[derive(Drop)]
+#[derive(Clone, Copy)]
 pub struct Rings {
     pub outbound_head: usize,
     pub outbound_len: usize,
@@ -25,7 +25,7 @@ impl Rings {
     pub const PENDING: usize = 256;
 }
 
-#[derive(Drop)]
+#[derive(Clone, Copy)]
 pub enum Ring {
     Outbound,
     Held,
@@ -44,7 +44,7 @@ fn capacity(ring: Ring) -> usize
 }
 
 // Where a record goes behind the last of a ring, and the ring's length then.
-#[derive(Drop)]
+#[derive(Clone, Copy)]
 pub struct Place {
     pub put: bool,
     pub at: usize,
@@ -74,7 +74,7 @@ pub fn place_of(ring: Ring, head: usize, len: usize) -> Place
 }
 
 // Where a record goes before the first of a ring, and where the ring begins and how long it is then.
-#[derive(Drop)]
+#[derive(Clone, Copy)]
 pub struct FrontPlace {
     pub put: bool,
     pub at: usize,

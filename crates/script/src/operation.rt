@@ -164,7 +164,7 @@ fn room_of(script: &[u8], at: usize, code: u8) -> u64 {
 }
 
 // What is known of an operation before it is carried out.
-#[derive(Drop)]
+#[derive(Clone, Copy)]
 pub struct Operation {
     pub code: u8,
     // 0 where it is malformed.
@@ -183,7 +183,7 @@ pub fn operation_at(script: &[u8], at: usize) -> Operation {
     }
 }
 
-#[derive(Drop)]
+#[derive(Clone, Copy)]
 pub struct Head {
     pub well_formed: bool,
     pub in_place: bool,

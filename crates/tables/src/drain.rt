@@ -10,7 +10,7 @@ use upkeep::deadline::{after, elapsed};
 use upkeep::pending::unmark;
 
 // So many entries are to be handed out. As many are written, or none where the table is too short for all.
-#[derive(Drop)]
+#[derive(Clone, Copy)]
 pub struct Handout {
     pub count: usize,
     pub write: usize,

@@ -1,4 +1,6 @@
 // Pending entries in tables that the caller lends, and what a replay makes of them.
+#![tactic(auto)]
+
 pub mod copy;
 pub mod drain;
 pub mod entries;

@@ -8,7 +8,7 @@ use crate::entries::is_batched;
 use types::entry::{OpSend, Replay};
 
 // The first `len` entries.
-#[derive(Drop)]
+#[derive(Clone, Copy)]
 pub struct Picks {
     pub entries: [OpSend; 256],
     pub len: usize,

@@ -5,7 +5,7 @@ ghost use Rattle.tables.specs.Snapshot.{snapshot_of};
 
 // So many entries are dropped, and so many are there for a replay. Where one of the tables is too short nothing is written to
 // either.
-#[derive(Drop)]
+#[derive(Clone, Copy)]
 pub struct Snapshot {
     pub fits: bool,
     pub dropped: usize,

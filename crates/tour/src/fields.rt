@@ -5,38 +5,38 @@ use types::message::{MaybePart, Part, SingleMessage};
 use types::optional::{MaybeBool, MaybeU64};
 
 // A place in the bytes, the end of what is read, and whether all so far had a reading.
-#[derive(Drop)]
+#[derive(Clone, Copy)]
 pub struct Cursor {
     pub at: usize,
     pub end: usize,
     pub good: bool,
 }
 
-#[derive(Drop)]
+#[derive(Clone, Copy)]
 struct Number {
     value: u64,
     next: Cursor,
 }
 
-#[derive(Drop)]
+#[derive(Clone, Copy)]
 struct PartField {
     value: MaybePart,
     next: Cursor,
 }
 
-#[derive(Drop)]
+#[derive(Clone, Copy)]
 struct NumberField {
     value: MaybeU64,
     next: Cursor,
 }
 
-#[derive(Drop)]
+#[derive(Clone, Copy)]
 struct MarkField {
     value: MaybeBool,
     next: Cursor,
 }
 
-#[derive(Drop)]
+#[derive(Clone, Copy)]
 pub struct Item {
     pub message: SingleMessage,
     pub next: Cursor,

@@ -1,5 +1,7 @@
 // A tour: a rate table goes out in chunks between two batches and a single message; its frames are taken, receipts come back,
 // and the frames are read back into the messages.
+#![tactic(auto)]
+
 mod compare;
 mod fields;
 mod parts;

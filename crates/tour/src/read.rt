@@ -8,14 +8,14 @@ use types::message::{Part, SingleMessage};
 use types::optional::MaybeU64;
 use types::txn::MaybeTxnId;
 
-#[derive(Drop)]
+#[derive(Clone, Copy)]
 pub struct Message {
     pub fields: SingleMessage,
     pub txn_id: MaybeTxnId,
 }
 
 // The messages read so far, and whether every frame had a reading.
-#[derive(Drop)]
+#[derive(Clone, Copy)]
 pub struct Messages {
     pub list: [Message; 16],
     pub len: usize,

@@ -33,7 +33,7 @@ fn decision(d: SendDecision, pushed: usize) {
 }
 
 // What waits and is pending at a time.
-#[derive(Drop)]
+#[derive(Clone, Copy)]
 pub struct Standing {
     waiting: usize,
     pending: u64,

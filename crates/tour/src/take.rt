@@ -12,7 +12,7 @@ use types::outbound::{MessageMetadata, OutboundFrame};
 use types::txn::MaybeTxnId;
 
 // A frame as it goes over the wire: payload and keys are parts of the bytes taken, and nothing of the store is in it.
-#[derive(Drop)]
+#[derive(Clone, Copy)]
 pub struct Frame {
     pub sequence_id: u64,
     pub message: SingleMessage,
@@ -23,7 +23,7 @@ pub struct Frame {
 }
 
 // The frames taken so far, and how far the bytes taken go: payloads one behind the other, and keys likewise.
-#[derive(Drop)]
+#[derive(Clone, Copy)]
 pub struct Frames {
     pub list: [Frame; 16],
     pub len: usize,
@@ -55,7 +55,7 @@ impl Frames {
 }
 
 // A key of the metadata as bytes, and the place behind it.
-#[derive(Drop)]
+#[derive(Clone, Copy)]
 struct Key {
     part: MaybePart,
     next: usize,
@@ -169,7 +169,7 @@ fn told(
     }
 }
 
-#[derive(Drop)]
+#[derive(Clone, Copy)]
 pub struct Taking {
     pub state: ProducerState,
     pub frames: Frames,

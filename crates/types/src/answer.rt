@@ -2,21 +2,21 @@
 use crate::error::ProducerError;
 
 // Of a call that gives nothing.
-#[derive(Drop)]
+#[derive(Clone, Copy)]
 pub enum Outcome {
     Done,
     Refused(ProducerError),
 }
 
 // Of a call that gives a number.
-#[derive(Drop)]
+#[derive(Clone, Copy)]
 pub enum CountOutcome {
     Count(usize),
     Refused(ProducerError),
 }
 
 // Of a send: `Emit` counts the frames of the message itself.
-#[derive(Drop)]
+#[derive(Clone, Copy)]
 pub enum SendDecision {
     Emit { count: usize },
     Batched,

@@ -1,7 +1,7 @@
 // What the broker sends back of a publish.
 use crate::types::{MaybeMessageIdData, ProducerHandle, SequenceId};
 
-#[derive(Drop)]
+#[derive(Clone, Copy)]
 pub struct CommandSendReceipt {
     pub producer_id: ProducerHandle,
     pub sequence_id: SequenceId,
@@ -9,7 +9,7 @@ pub struct CommandSendReceipt {
 }
 
 // The error's text is left out.
-#[derive(Drop)]
+#[derive(Clone, Copy)]
 pub struct CommandSendError {
     pub producer_id: ProducerHandle,
     pub sequence_id: SequenceId,

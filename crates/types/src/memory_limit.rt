@@ -2,7 +2,7 @@
 ghost use Rattle.std.specs.Prelude.{◌≡◌};
 ghost use Rattle.types.specs.MemoryLimit.{reservable};
 
-#[derive(Drop)]
+#[derive(Clone, Copy)]
 pub struct MemoryReservation {
     pub bytes: u64,
 }

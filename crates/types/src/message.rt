@@ -4,19 +4,19 @@ use crate::txn::MaybeTxnId;
 use crate::types::MaybeMessageId;
 
 // A start and a length in the store.
-#[derive(Drop)]
+#[derive(Clone, Copy)]
 pub struct Part {
     pub start: usize,
     pub len: usize,
 }
 
-#[derive(Drop)]
+#[derive(Clone, Copy)]
 pub enum MaybePart {
     Absent,
     Present(Part),
 }
 
-#[derive(Drop)]
+#[derive(Clone, Copy)]
 pub struct OutgoingMessage {
     pub payload: Part,
     pub partition_key: MaybePart,
@@ -39,7 +39,7 @@ pub struct OutgoingMessage {
 }
 
 // What a batch keeps of a message.
-#[derive(Drop)]
+#[derive(Clone, Copy)]
 pub struct SingleMessage {
     pub payload: Part,
     pub partition_key: MaybePart,

@@ -5,7 +5,7 @@ use crate::optional::{MaybeBool, MaybeI32, MaybeI64, MaybeU64};
 use crate::txn::MaybeTxnId;
 use crate::types::{MaybeMessageId, ProducerHandle, SequenceId};
 
-#[derive(Drop)]
+#[derive(Clone, Copy)]
 pub struct CommandSend {
     pub producer_id: ProducerHandle,
     pub sequence_id: SequenceId,
@@ -17,20 +17,20 @@ pub struct CommandSend {
 }
 
 // The message's own name, a part of the store; the producer's where that is empty.
-#[derive(Drop)]
+#[derive(Clone, Copy)]
 pub struct FrameName {
     pub own: Part,
     pub producer: ProducerName,
 }
 
 // A uuid as 36 characters, of a chunk. (An enum may not hold an array.)
-#[derive(Drop)]
+#[derive(Clone, Copy)]
 pub struct UuidText {
     pub present: bool,
     pub text: [u8; 36],
 }
 
-#[derive(Drop)]
+#[derive(Clone, Copy)]
 pub struct MessageMetadata {
     pub producer_name: FrameName,
     pub sequence_id: SequenceId,
@@ -54,7 +54,7 @@ pub struct MessageMetadata {
 }
 
 // The payload is the first `payload_len` bytes of the buffer.
-#[derive(Drop)]
+#[derive(Clone, Copy)]
 pub struct OutboundFrame {
     pub command: CommandSend,
     pub metadata: MessageMetadata,

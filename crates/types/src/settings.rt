@@ -2,7 +2,7 @@
 use crate::frame::ProducerName;
 use crate::optional::MaybeU64;
 
-#[derive(Drop)]
+#[derive(Clone, Copy)]
 pub struct Limits {
     // Payload length above which a message is chunked or refused.
     pub max_message_size: usize,
@@ -10,7 +10,7 @@ pub struct Limits {
     pub max_messages_in_batch: usize,
 }
 
-#[derive(Drop)]
+#[derive(Clone, Copy)]
 pub struct Switches {
     pub batching_enabled: bool,
     pub chunking_enabled: bool,
@@ -20,13 +20,13 @@ pub struct Switches {
 }
 
 // In milliseconds.
-#[derive(Drop)]
+#[derive(Clone, Copy)]
 pub struct Delays {
     pub send_timeout: MaybeU64,
     pub batching_max_publish_delay: MaybeU64,
 }
 
-#[derive(Drop)]
+#[derive(Clone, Copy)]
 pub struct ProducerSettings {
     pub name: ProducerName,
     pub limits: Limits,
@@ -35,7 +35,7 @@ pub struct ProducerSettings {
 }
 
 // One setting, as the call that sets it names it. The name and closing have calls of their own.
-#[derive(Drop)]
+#[derive(Clone, Copy)]
 pub enum Setting {
     MaxMessageSize(usize),
     MaxBatchSizeBytes(usize),

@@ -1,5 +1,5 @@
 // A transaction id.
-#[derive(Drop)]
+#[derive(Clone, Copy)]
 pub struct TxnId {
     // Most often the transaction coordinator.
     pub most_sig_bits: u64,
@@ -7,7 +7,7 @@ pub struct TxnId {
     pub least_sig_bits: u64,
 }
 
-#[derive(Drop)]
+#[derive(Clone, Copy)]
 pub enum MaybeTxnId {
     Absent,
     Present(TxnId),

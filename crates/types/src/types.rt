@@ -5,15 +5,15 @@ ghost use Rattle.types.specs.Ids.{from_pb, of_receipt, or_minus_one};
 use crate::optional::MaybeI32;
 
 // A producer id, which the connection gives out.
-#[derive(Drop)]
+#[derive(Clone, Copy)]
 pub struct ProducerHandle(pub u64);
 
 // The number of a publish, which its receipt names.
-#[derive(Drop)]
+#[derive(Clone, Copy)]
 pub struct SequenceId(pub u64);
 
 // Where a message is stored.
-#[derive(Drop)]
+#[derive(Clone, Copy)]
 pub struct MessageId {
     pub ledger_id: u64,
     pub entry_id: u64,
@@ -22,14 +22,14 @@ pub struct MessageId {
     pub batch_size: i32,
 }
 
-#[derive(Drop)]
+#[derive(Clone, Copy)]
 pub enum MaybeMessageId {
     Absent,
     Present(MessageId),
 }
 
 // A message id as the protocol has it.
-#[derive(Drop)]
+#[derive(Clone, Copy)]
 pub struct MessageIdData {
     pub ledger_id: u64,
     pub entry_id: u64,
@@ -38,7 +38,7 @@ pub struct MessageIdData {
     pub batch_size: MaybeI32,
 }
 
-#[derive(Drop)]
+#[derive(Clone, Copy)]
 pub enum MaybeMessageIdData {
     Absent,
     Present(MessageIdData),

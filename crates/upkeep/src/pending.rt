@@ -6,7 +6,7 @@ ghost use Rattle.upkeep.specs.Pending.{keys, wanted, place_of, first_if, located
 
 use rules::numbers::at_most;
 
-#[derive(Drop)]
+#[derive(Clone, Copy)]
 pub enum Found {
     // So many places from the front.
     At(usize),
