@@ -14,9 +14,10 @@ use Rattle.types.specs.declared.frame.FrameRecord.{FrameRecord}
 use Rattle.types.specs.declared.types.ProducerHandle.{ProducerHandle}
 use Rattle.types.specs.declared.way.Way.{Way}
 use Rattle.types.specs.declared.way.Way.TheVariants as way
-use Rattle.queue.specs.Queue.{Queue, Outcome, Answer, refused, done, refuse, new_queue, empty_outgoing, with_pending, with_out}
+use Rattle.queue.specs.Queue.{Queue, Outcome, Answer, refused, done, refuse, new_queue, empty_outgoing, with_pending, with_ids, with_out}
+use Rattle.types.specs.Ids.{of_receipt}
 use Rattle.queue.specs.Settings as settings
-use Rattle.queue.specs.Ids.{set_initial_sequence_id}
+use Rattle.queue.specs.Ids.{published, set_initial_sequence_id}
 use Rattle.queue.specs.Batch.{is_empty, too_many, flushed, flush_batch}
 use Rattle.queue.specs.Send.{Sending, Plan, no, go, plan, add_to_batch, emit_single, emit_chunked, follow, carried_out, queue_send}
 use Rattle.queue.specs.Frame.{Frame, first_frame, frame_in}
@@ -136,8 +137,8 @@ module _ (store : List ℕ) (q : Queue) (k : Well q) where
       (λ i b passed. record { len = follow_len a _ q (omega (arith, k.out.shared, k.out.held)) })
   step_len (flush time) = flush_len time (is_empty q.out.batch) q.settings.switches.closed (too_many 1 q)
   step_len (take room) = take_len room q.out.frames
-  step_len (receipt id message_id) = settle_len id _ _ (λ p. refl) (answerable id q.pending) (found id q.pending)
-  step_len (send_error id code) = settle_len id _ _ (λ p. refl) (answerable id q.pending) (found id q.pending)
+  step_len (receipt id message_id) = settle_len id (λ (op : OpSend). (op, of_receipt message_id)) (λ (p : Queue). with_ids (published id p.ids) p) (λ p. refl) (answerable id q.pending) (found id q.pending)
+  step_len (send_error id code) = settle_len id (λ (op : OpSend). (op, code)) (λ (p : Queue). p) (λ p. refl) (answerable id q.pending) (found id q.pending)
   step_len (timeouts now room) =
       pick_ind (Leaves (len_in q)) (ltb room (length (firsts (due_count now (num_of q.settings.delays.send_timeout) q.pending) q.pending))) _ _
       (λ x. stays)

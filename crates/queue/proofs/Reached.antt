@@ -18,9 +18,10 @@ use Rattle.types.specs.declared.settings.ProducerSettings.{ProducerSettings}
 use Rattle.types.specs.declared.types.ProducerHandle.{ProducerHandle}
 use Rattle.types.specs.declared.way.Way.{Way}
 use Rattle.types.specs.declared.way.Way.TheVariants as way
-use Rattle.queue.specs.Queue.{Queue, Outcome, new_queue, empty_outgoing, refuse, with_out, with_pending}
+use Rattle.queue.specs.Queue.{Queue, Outcome, new_queue, empty_outgoing, refuse, with_out, with_pending, with_ids}
+use Rattle.types.specs.Ids.{of_receipt}
 use Rattle.queue.specs.Settings as settings
-use Rattle.queue.specs.Ids.{set_initial_sequence_id}
+use Rattle.queue.specs.Ids.{published, set_initial_sequence_id}
 use Rattle.queue.specs.Batch.{too_many, flush_batch, is_empty, may_join}
 use Rattle.queue.specs.Send.{Sending, Decision, large, total_chunks, way_into, way_of, flushes_before, pushes, joins, is_too_large, message_in, within_bounds, Plan, no, go, plan, add_to_batch, flush_if, follow, carried_out, queue_send}
 use Rattle.queue.specs.Frame.{Frame, first_frame, frame_in}
@@ -192,8 +193,8 @@ module _ (store : List ℕ) (q : Queue) (k : Well q) where
       (λ y. pick_ind P (too_many 1 q) _ _ (λ z. k) (λ z. flush_well q k time (ltb-false 1024 (q.out.waiting + 1) z))))
   step_well (take room) is64 = take_well room q.out.frames refl
   step_well (receipt id message_id) is64 =
-      settle_well id _ _ (λ p h. record { out = h.out; pending = h.pending }) (answerable id q.pending) (found id q.pending)
-  step_well (send_error id code) is64 = settle_well id _ _ (λ p h. h) (answerable id q.pending) (found id q.pending)
+      settle_well id (λ (op : OpSend). (op, of_receipt message_id)) (λ (p : Queue). with_ids (published id p.ids) p) (λ p h. record { out = h.out; pending = h.pending }) (answerable id q.pending) (found id q.pending)
+  step_well (send_error id code) is64 = settle_well id (λ (op : OpSend). (op, code)) (λ (p : Queue). p) (λ p h. h) (answerable id q.pending) (found id q.pending)
   step_well (timeouts now room) is64 =
       let n = due_count now (num_of q.settings.delays.send_timeout) q.pending in
       let gone = firsts n q.pending in

@@ -10,9 +10,10 @@ use borrow.Author.Tests.{ltb-false}
 use Rattle.laws.specs.Choice.{pick}
 use Rattle.types.specs.Values.{num_of}
 use Rattle.types.specs.declared.entry.OpSend.{OpSend}
-use Rattle.queue.specs.Queue.{Queue, Outcome, done, refuse, with_pending}
+use Rattle.queue.specs.Queue.{Queue, Outcome, done, refuse, with_pending, with_ids}
+use Rattle.types.specs.Ids.{of_receipt}
 use Rattle.queue.specs.Settings as settings
-use Rattle.queue.specs.Ids.{set_initial_sequence_id}
+use Rattle.queue.specs.Ids.{published, set_initial_sequence_id}
 use Rattle.queue.specs.Batch.{is_empty, flushed, too_many, flush_batch}
 use Rattle.queue.specs.Frame.{Frame}
 use Rattle.queue.specs.Take.{next_outbound_frame}
@@ -92,9 +93,9 @@ module _ (store : List ℕ) (q : Queue) (took : List Frame) (acc : List Message)
       (rw (append-nil took, append-nil acc) (flush_if_holds store q took acc all k w true time (ltb-false 1024 (q.out.waiting + 1) z))))))
   step_holds (take room) is64 covered = take_holds room k.groups refl
   step_holds (receipt id message_id) is64 covered =
-      quiet (receipt id message_id) _ (settle_holds id _ _ (λ p. refl) (λ p. refl) (answerable id q.pending) (found id q.pending))
+      quiet (receipt id message_id) _ (settle_holds id (λ (op : OpSend). (op, of_receipt message_id)) (λ (p : Queue). with_ids (published id p.ids) p) (λ p. refl) (λ p. refl) (answerable id q.pending) (found id q.pending))
   step_holds (send_error id code) is64 covered =
-      quiet (send_error id code) _ (settle_holds id _ _ (λ p. refl) (λ p. refl) (answerable id q.pending) (found id q.pending))
+      quiet (send_error id code) _ (settle_holds id (λ (op : OpSend). (op, code)) (λ (p : Queue). p) (λ p. refl) (λ p. refl) (answerable id q.pending) (found id q.pending))
   step_holds (timeouts now room) is64 covered =
       let gone = firsts (due_count now (num_of q.settings.delays.send_timeout) q.pending) q.pending in
       pick_ind (Keeps store q (timeouts now room) took acc all) (ltb room (length gone)) _ _
