@@ -11,7 +11,7 @@ use crate::send::CountAnswer;
 use crate::state::ProducerState;
 use rules::numbers::at_most;
 use tables::entries::{again, frames_of, is_batched};
-use tables::frames::frames_for;
+use tables::pushes::frames_for;
 use tables::load::{all_well_formed, load};
 use tables::unborne::unborne;
 use types::answer::{CountOutcome, Outcome};

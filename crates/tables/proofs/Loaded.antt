@@ -29,6 +29,12 @@ tested_more l i d h =
     ∙ all_append (take i l) (op ∷ [])
     ∙ ap (λ (b : Bool). all_well_formed (take i l) && b) (and_true (well_formed_as op op.publish.replay)))
 
+-- as a loop has it, with what it holds so far
+pub tested_step : (l : List OpSend) (i : ℕ) (d : OpSend) (b : Bool) → b ≡ all_well_formed (take i l) → i < length l
+    → (b && well_formed_as (get_or l i d) (get_or l i d).publish.replay) ≡ all_well_formed (take (i + 1) l)
+tested_step l i d b e h =
+    ap (λ (a : Bool). a && well_formed_as (get_or l i d) (get_or l i d).publish.replay) e ∙ tested_more l i d h
+
 -- the first i entries of es, and l from i on
 abbrev pub filled : {A : Type 0} → List A → List A → ℕ → List A
 filled es l i = take i es ++ drop i l
@@ -38,6 +44,11 @@ pub filled_more : {A : Type 0} (es l : List A) (i : ℕ) (d : A) → i < length 
 filled_more es l i d p q =
     let k : length (take i es) ≡ i = length-take-le i es (omega arith) in
     rw (add-one, drop-cons l i d, set_at (take i es) (get_or l i d) (drop (suc i) l) (get_or es i d) i k, take-suc es i d, append_assoc)
+
+-- as a loop has it, with what it holds so far
+pub filled_step : {A : Type 0} (es l t : List A) (i : ℕ) (d : A) → t ≡ filled es l i → i < length es → i < length l
+    → set t i (get_or es i d) ≡ filled es l (i + 1)
+filled_step {A} es l t i d e p q = ap (λ (x : List A). set x i (get_or es i d)) e ∙ filled_more es l i d p q
 
 pub filled_long : {A : Type 0} (es l : List A) (i : ℕ) → i ≤ length es → i ≤ length l → length (filled es l i) ≡ length l
 filled_long es l i p q = simp (length-append, length-drop, length-take-le i es p) (omega arith)

@@ -4,9 +4,9 @@
 pub mod copy;
 pub mod drain;
 pub mod entries;
-pub mod frames;
 pub mod load;
 pub mod pick;
+pub mod pushes;
 pub mod scalars;
 pub mod snapshot;
 pub mod unborne;

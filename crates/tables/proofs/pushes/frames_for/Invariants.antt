@@ -1,0 +1,11 @@
+-- `tables::pushes::frames_for`: the sum so far and the frames still to come are those of all entries.
+use Rattle.std.proofs.Common.{◌≡◌, ℕ, ◌+◌, ◌-◌, ◌^◌, ◌<◌, ◌≤◌, length, sym, ap, ◌∙◌, subst, arith, rules}
+use Rattle.laws.specs.Numbers.{add_sat}
+use Rattle.tables.proofs.Sums.{Added, added_start, added_step, added_end}
+use Rattle.tables.proofs.pushes.frames_for.Given as goal
+
+abbrev pub invariant-loop-i : goal.invariant-loop-i
+invariant-loop-i l = (l.i ≤ l.n) × (l.sum < 2 ^ 64) × ((b : l.n ≤ length l.ops) → Added l.ops l.n b l.sum l.i)
+
+abbrev pub decreases-loop-i : goal.decreases-loop-i
+decreases-loop-i l = l.n - l.i
