@@ -1,0 +1,11 @@
+
+use Rattle.producer.proofs.Full.{full}
+use Rattle.producer.proofs.Gap.{Moving, moving_start, moving_step, moving_end}
+use Rattle.std.proofs.Common.{◌-◌, arith, rules}
+use Rattle.producer.proofs.state.ProducerState.close_gap.Given as goal
+
+abbrev pub invariant-loop-i : goal.invariant-loop-i
+invariant-loop-i l = Moving l.initial.self l.place l.self l.i
+
+abbrev pub decreases-loop-i : goal.decreases-loop-i
+decreases-loop-i l = l.n - l.i

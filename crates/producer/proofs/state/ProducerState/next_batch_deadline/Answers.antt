@@ -1,0 +1,8 @@
+-- `ProducerState::next_batch_deadline`: that of the scalars.
+use Rattle.std.proofs.Common.{ap, ◌∙◌, rules}
+use Rattle.types.specs.Values.{num_of}
+use Rattle.producer.proofs.Queries.{batch_deadline_lem}
+use Rattle.producer.proofs.state.ProducerState.next_batch_deadline.Goals as goal
+
+pub returns : goal.returns
+returns c = ap num_of c.next_batch_deadline.ensures ∙ batch_deadline_lem c.args.self

@@ -1,0 +1,19 @@
+-- `ProducerState::next_outbound_frame`: what is answered, written and stored is what the plan says.
+use Rattle.std.proofs.Common.{◌≡◌, ℕ, ◌^◌, ◌<◌, ◌≤◌, length, sym, subst, arith, rules}
+use Rattle.producer.proofs.Full.{full}
+use Rattle.producer.proofs.Takes.{front_of, count_small, takes_writable, takes_done, takes_refused}
+use Rattle.producer.proofs.state.ProducerState.next_outbound_frame.Goals as goal
+
+pub put_payload-requires : goal.put_payload-requires
+put_payload-requires c =
+    let a = c.args in
+    let s = a.self in
+    let f = full s c.well_formed.0 in
+    let store = a.store.now in
+    let before = a.buffer.now in
+    let small : length store < 2 ^ 63 = omega (arith, c.well_formed.1.0) in
+    let short : length before < 2 ^ 63 = omega (arith, c.well_formed.1.1.0) in
+    let count = c.held_count-count in
+    let got = c.payload_span-span in
+    let plan = c.plan_take-plan in
+    (subst (λ (k : ℕ). k ≤ 512) (sym count.ensures) (count_small (front_of s f _).kind s.core.rings.held_len), takes_writable s f _ store before small short got.result count.result count.ensures got.ensures plan.result plan.ensures c.if-plan.true)

@@ -1,0 +1,22 @@
+-- `ProducerState::queue_send_reserved`: what is planned is stored, and the plan's stores make the queue of the definition.
+use Rattle.std.proofs.Common.{◌≡◌, ℕ, List, length, sym, subst, rules}
+use Rattle.types.specs.declared.memory_limit.MemoryReservation.{MemoryReservation}
+use Rattle.types.specs.declared.message.OutgoingMessage.{OutgoingMessage}
+use Rattle.queue.specs.Queue.{Outcome}
+use Rattle.queue.specs.Send.{Decision, queue_send}
+use Rattle.queue.specs.Told.{told_send}
+use Rattle.plans.specs.declared.delta.SendDelta.{SendDelta}
+use Rattle.plans.specs.declared.send.Sending.{Sending}
+use Rattle.producer.specs.View.{view}
+use Rattle.producer.specs.Apply.{InRange}
+use Rattle.producer.specs.Send.{KeptSend}
+use Rattle.producer.specs.declared.state.ProducerState.{ProducerState}
+use Rattle.producer.proofs.Full.{full}
+use Rattle.producer.proofs.Sends.{brought, Sends, plan_sends, in_range}
+use Rattle.producer.proofs.state.ProducerState.queue_send_reserved.Goals as goal
+
+abbrev given : OutgoingMessage → MemoryReservation → List ℕ → ℕ → ℕ → Sending
+given m r uuid publish_time time = record { message = m; reservation = r; uuid = uuid; publish_time = publish_time; now = time }
+
+pub apply-s-requires : goal.apply-s-requires
+apply-s-requires c = let a = c.args in subst InRange (sym c.plan_send-d.ensures) (in_range (length a.store.now) (given a.message a.reservation a.uuid a.publish_time a.time) a.self.core)

@@ -1,0 +1,51 @@
+-- `ProducerState::settle`: the place is that of the definitions, and the steps leave the entries without it.
+use Rattle.std.proofs.Common.{◌≡◌, ℕ, ◌<◌, min, map, length, sym, refl, ap, ◌∙◌, subst, arith, rules}
+use lib.ListN.{length-map}
+use Rattle.laws.specs.Lists.{without}
+use Rattle.queue.specs.Queue.{Queue, with_pending}
+use Rattle.upkeep.specs.Pending.{located}
+use Rattle.upkeep.specs.declared.pending.Found.{Found}
+use Rattle.upkeep.specs.declared.pending.Found.TheVariants.{At}
+use Rattle.producer.specs.View.{view}
+use Rattle.producer.specs.Settle.{key_of, settles_at}
+use Rattle.producer.specs.declared.state.ProducerState.{ProducerState}
+use Rattle.producer.proofs.Full.{Good, full}
+use Rattle.producer.proofs.Locate.{located_below, length_view, unmarked_view}
+use Rattle.producer.proofs.state.ProducerState.settle.Goals as goal
+
+-- a place that was found, against each of the lengths in question
+record InRange (s : ProducerState) (i : ℕ) : Type 0 where
+  listed : i < length (view s).pending
+  entry : i < min s.core.rings.pending_len 256
+  small : i < 256
+
+in_range : (s : ProducerState) → Good s → (id : ℕ) (r : Found) → r ≡ located id (map key_of (view s).pending) → (i : ℕ) → r ≡ At i → InRange s i
+in_range s g id r e i at =
+    let b : i < length (map key_of (view s).pending) = located_below id (map key_of (view s).pending) i (sym e ∙ at) in
+    let l : length (map key_of (view s).pending) ≡ length (view s).pending = length-map (view s).pending key_of in
+    let m : length (view s).pending ≡ min s.core.rings.pending_len 256 = length_view s (full s g) in
+    record { listed = omega arith; entry = omega arith; small = omega arith }
+
+pub op_at-op-requires : goal.op_at-op-requires
+op_at-op-requires c = (in_range c.args.self c.well_formed.0 c.args.id c.place_of-place.result c.place_of-place.ensures c.in-At.i c.in-At.is).small
+
+pub remove-state-requires : goal.remove-state-requires
+remove-state-requires c =
+    let a = c.args in
+    rw c.unmark_all-s.ensures
+    (in_range a.self c.well_formed.0 a.id _ c.place_of-place.ensures _ c.in-At.is).entry
+
+pub returns-in-At : goal.returns-in-At
+returns-in-At c =
+    let a = c.args in
+    let s = a.self in
+    let e = c.place_of-place.ensures in
+    let i = c.in-At.i in
+    let at = c.in-At.is in
+    let b = in_range s c.well_formed.0 a.id _ e i at in
+    subst (settles_at a.id s _) (sym at ∙ e) (
+      b.listed,
+      refl,
+      c.op_at-op.ensures,
+      c.remove-state.ensures ∙ ap (λ (q : Queue). with_pending (without q.pending i) q) (ap view c.unmark_all-s.ensures ∙ unmarked_view a.id s),
+    )
