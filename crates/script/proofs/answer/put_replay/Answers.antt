@@ -1,0 +1,7 @@
+-- `script::answer::put_replay`: its writes one after the other.
+use borrow.Author.Rules.{rules}
+use Rattle.script.proofs.Outputs.{next}
+use Rattle.script.proofs.answer.put_replay.Goals as goal
+
+pub returns-in-Chunked : goal.returns-in-Chunked
+returns-in-Chunked c = search next

@@ -1,0 +1,13 @@
+-- `script::write::put_raw`: a byte more in each turn.
+use borrow.Author.Rules.{rules}
+use Rattle.std.specs.Prelude.{◌≡◌, ◌-◌, ◌≤◌, length}
+use mathlib.Core.Path.{refl}
+use Rattle.script.specs.Output.{Wrote}
+use Rattle.script.proofs.Outputs.{nothing, next}
+use Rattle.script.proofs.write.put_raw.Given as goal
+
+abbrev pub invariant-loop-i : goal.invariant-loop-i
+invariant-loop-i l = (l.n ≡ length l.bytes) × Wrote l.at l.initial.out l.out l.to
+
+abbrev pub decreases-loop-i : goal.decreases-loop-i
+decreases-loop-i l = l.n - l.i
