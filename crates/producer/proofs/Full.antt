@@ -1,6 +1,5 @@
 -- The state's arrays have as many elements as its type says, and a store keeps that. Assumes nothing.
-use Rattle.std.proofs.Common.{◌≡◌, [], ◌∷◌, length, sym, ◌∙◌}
-use lib.ListN.{length-map}
+use Rattle.std.proofs.Common.{◌≡◌, [], ◌∷◌, length, ◌∙◌}
 use denote.Laws.{Is}
 use denote.Struct.Declared.{row}
 use denote.Struct.Laws.{val}
@@ -30,11 +29,11 @@ pub record Full (s : ProducerState) : Type 0 where
 pub full : (s : ProducerState) → Good s → Full s
 full s g =
     record {
-      outbound = sym (length-map s.outbound _) ∙ g.1.1.1.0.1.0.1;
-      held = sym (length-map s.held _) ∙ g.1.1.1.1.0.1.0.1;
-      pending = sym (length-map s.pending _) ∙ g.1.1.1.1.1.0.1.0.1;
-      ids = sym (length-map s.pending_ids _) ∙ g.1.1.1.1.1.1.0.1.0.1;
-      marks = sym (length-map s.pending_marks _) ∙ g.1.1.1.1.1.1.1.0.1.0.1;
+      outbound = g.1.1.1.0.1.0.1;
+      held = g.1.1.1.1.0.1.0.1;
+      pending = g.1.1.1.1.1.0.1.0.1;
+      ids = g.1.1.1.1.1.1.0.1.0.1;
+      marks = g.1.1.1.1.1.1.1.0.1.0.1;
     }
 
 pub slots : (s : ProducerState) → Full s → length (slots_of s) ≡ 256

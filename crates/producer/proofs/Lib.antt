@@ -7,7 +7,6 @@ pub mod Fresh
 pub mod Fronts
 pub mod Full
 pub mod Gap
-pub mod Hands
 pub mod Listed
 pub mod Loads
 pub mod Locate

@@ -11,4 +11,4 @@ unfolding may_add view
 returns c =
     let a = c.args in
     c.can_add_to_batch.ensures
-    ∙ ap (can_add_to_batch a.self.core.settings a.self.core.batch a.payload_size) (to_z-of_z w32 a.num_messages c.ranges.num-messages)
+    ∙ ap (can_add_to_batch a.self.core.settings a.self.core.batch a.payload_size) (to_z-of_z w32 a.num_messages c.ranges.num_messages)

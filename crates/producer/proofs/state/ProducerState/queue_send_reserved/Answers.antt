@@ -20,3 +20,14 @@ given m r uuid publish_time time = record { message = m; reservation = r; uuid =
 
 pub apply-s-requires : goal.apply-s-requires
 apply-s-requires c = let a = c.args in subst InRange (sym c.plan_send-d.ensures) (in_range (length a.store.now) (given a.message a.reservation a.uuid a.publish_time a.time) a.self.core)
+
+pub returns : goal.returns
+returns c =
+    let both =
+    let a = c.args in
+        let s = a.self in
+        let g = given a.message a.reservation a.uuid a.publish_time a.time in
+        let o = queue_send (length a.store.now) (brought g) (view s) in
+        subst (λ (r : ProducerState). Sent s g c.plan_send-d.result r o) (sym c.apply-s.ensures)
+        (subst (λ (d : SendDelta). Sends s (full s c.well_formed.0) g d o) (sym c.plan_send-d.ensures) (plan_sends s (full s c.well_formed.0) g (length a.store.now))) in
+    record { answer_value = both.0; kept_send = both.1 }
