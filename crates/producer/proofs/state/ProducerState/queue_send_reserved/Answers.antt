@@ -18,6 +18,11 @@ use Rattle.producer.proofs.state.ProducerState.queue_send_reserved.Goals as goal
 abbrev given : OutgoingMessage → MemoryReservation → List ℕ → ℕ → ℕ → Sending
 given m r uuid publish_time time = record { message = m; reservation = r; uuid = uuid; publish_time = publish_time; now = time }
 
+-- what is claimed of the answer and the state
+abbrev Sent : ProducerState → Sending → SendDelta → ProducerState → Outcome Decision → Type 0
+Sent s a d r o =
+    ◌≡◌ {A = Outcome Decision} (view r, told_send d.answer) o × KeptSend a.message (view s) (told_send d.answer) s r
+
 pub apply-s-requires : goal.apply-s-requires
 apply-s-requires c = let a = c.args in subst InRange (sym c.plan_send-d.ensures) (in_range (length a.store.now) (given a.message a.reservation a.uuid a.publish_time a.time) a.self.core)
 
