@@ -9,6 +9,7 @@ ghost use Rattle.std.specs.Prelude.{◌≡◌};
 ghost use Rattle.cases.specs.Messages.{message_of};
 
 use print::{bytes, end, label, number, signed, signed32};
+use std::io;
 use types::error::ProducerError;
 use types::message::{MaybePart, Part, SingleMessage};
 use types::optional::{MaybeBool, MaybeI32, MaybeU64};
@@ -16,27 +17,30 @@ use types::types::{MaybeMessageIdData, MessageId, MessageIdData};
 use wire::batch::put_item;
 use wire::single::put_single;
 
-fn deadline(name: &[u8], base: u64, delta: u64) {
-    label(name);
-    number(types::time::deadline_with_clamp(base, delta));
-    end();
+fn deadline(rt: &impl Print, name: &[u8], base: u64, delta: u64) -> io::Result<()> {
+    label(rt, name)?;
+    number(rt, types::time::deadline_with_clamp(base, delta))?;
+    end(rt)
 }
 
-fn before_next(name: &[u8], next: u64) {
-    label(name);
-    signed(types::signed::saturating_sub_one(types::signed::signed_of(next)));
-    end();
+fn before_next(rt: &impl Print, name: &[u8], next: u64) -> io::Result<()> {
+    label(rt, name)?;
+    signed(
+        rt,
+        types::signed::saturating_sub_one(types::signed::signed_of(next)),
+    )?;
+    end(rt)
 }
 
-fn message_id(name: &[u8], id: MaybeMessageIdData) {
+fn message_id(rt: &impl Print, name: &[u8], id: MaybeMessageIdData) -> io::Result<()> {
     let m = MessageId::of_receipt(id);
-    label(name);
-    number(m.ledger_id);
-    number(m.entry_id);
-    signed32(m.partition);
-    signed32(m.batch_index);
-    signed32(m.batch_size);
-    end();
+    label(rt, name)?;
+    number(rt, m.ledger_id)?;
+    number(rt, m.entry_id)?;
+    signed32(rt, m.partition)?;
+    signed32(rt, m.batch_index)?;
+    signed32(rt, m.batch_size)?;
+    end(rt)
 }
 
 // A message of the batch: the first `len` bytes of the store, with a partition key.
@@ -54,55 +58,59 @@ fn message(len: usize, key: MaybePart, time: MaybeU64) -> SingleMessage
 }
 
 // One message `quote`: its item of a batch's payload.
-fn quote() {
+fn quote(rt: &impl Print) -> io::Result<()> {
     let mut out = [0u8; 11];
     let m = message(5, MaybePart::Absent, MaybeU64::Absent);
     put_item(&mut out, 0, b"quote", m);
-    label(b"B1");
-    bytes(&out);
-    end();
+    label(rt, b"B1")?;
+    bytes(rt, &out)?;
+    end(rt)
 }
 
 // The published vectors of the Protocol Buffers encoding: the string `testing` under tag 2, and the varint 150.
-fn published() {
+fn published(rt: &impl Print) -> io::Result<()> {
     let mut out = [0u8; 14];
     let key = MaybePart::Present(Part { start: 0, len: 7 });
     let m = message(0, key, MaybeU64::Present(150));
     put_single(&mut out, b"testing", m);
-    label(b"testing 150");
-    bytes(&out);
-    end();
+    label(rt, b"testing 150")?;
+    bytes(rt, &out)?;
+    end(rt)
 }
 
-fn refusal(e: ProducerError) {
-    number(e.number() as u64);
+fn refusal(rt: &impl Print, e: ProducerError) -> io::Result<()> {
+    number(rt, e.number() as u64)
 }
 
-fn refusals() {
-    label(b"refusals");
-    refusal(ProducerError::Closed);
-    refusal(ProducerError::PartOutside);
-    refusal(ProducerError::OverBound);
-    refusal(ProducerError::OutboundFull);
-    refusal(ProducerError::HeldFull);
-    refusal(ProducerError::MessageTooLarge {
-        size: 2,
-        max_message_size: 1,
-    });
-    refusal(ProducerError::PendingFull);
-    refusal(ProducerError::SettingOverBound);
-    refusal(ProducerError::TooShort);
-    refusal(ProducerError::NoFrame);
-    refusal(ProducerError::NotAnswerable);
-    refusal(ProducerError::MalformedEntry);
-    end();
+fn refusals(rt: &impl Print) -> io::Result<()> {
+    label(rt, b"refusals")?;
+    refusal(rt, ProducerError::Closed)?;
+    refusal(rt, ProducerError::PartOutside)?;
+    refusal(rt, ProducerError::OverBound)?;
+    refusal(rt, ProducerError::OutboundFull)?;
+    refusal(rt, ProducerError::HeldFull)?;
+    refusal(
+        rt,
+        ProducerError::MessageTooLarge {
+            size: 2,
+            max_message_size: 1,
+        },
+    )?;
+    refusal(rt, ProducerError::PendingFull)?;
+    refusal(rt, ProducerError::SettingOverBound)?;
+    refusal(rt, ProducerError::TooShort)?;
+    refusal(rt, ProducerError::NoFrame)?;
+    refusal(rt, ProducerError::NotAnswerable)?;
+    refusal(rt, ProducerError::MalformedEntry)?;
+    end(rt)
 }
 
-fn main() {
-    deadline(b"T1", 5, 10);
-    deadline(b"T2", u64::MAX - 3_600_000, u64::MAX);
-    deadline(b"T3", u64::MAX, 1);
+fn main(rt: HostRuntime) -> io::Result<()> {
+    deadline(&rt, b"T1", 5, 10)?;
+    deadline(&rt, b"T2", u64::MAX - 3_600_000, u64::MAX)?;
+    deadline(&rt, b"T3", u64::MAX, 1)?;
     message_id(
+        &rt,
         b"I1",
         MaybeMessageIdData::Present(MessageIdData {
             ledger_id: 7,
@@ -111,14 +119,14 @@ fn main() {
             batch_index: MaybeI32::Absent,
             batch_size: MaybeI32::Absent,
         }),
-    );
-    message_id(b"I2", MaybeMessageIdData::Absent);
-    before_next(b"S1", 1);
-    before_next(b"S2", 0x8000_0000_0000_0000);
-    before_next(b"S3", u64::MAX);
-    quote();
-    sends::joins_and_is_flushed();
-    sends::as_many_chunks_as_frames();
-    published();
-    refusals();
+    )?;
+    message_id(&rt, b"I2", MaybeMessageIdData::Absent)?;
+    before_next(&rt, b"S1", 1)?;
+    before_next(&rt, b"S2", 0x8000_0000_0000_0000)?;
+    before_next(&rt, b"S3", u64::MAX)?;
+    quote(&rt)?;
+    sends::joins_and_is_flushed(&rt)?;
+    sends::as_many_chunks_as_frames(&rt)?;
+    published(&rt)?;
+    refusals(&rt)
 }

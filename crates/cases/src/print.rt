@@ -1,40 +1,42 @@
 // A case's line: its name, then values, each after a space.
-use libc::STDOUT_FILENO;
+use std::io;
 
-pub fn label(name: &[u8]) {
-    io::write_all(STDOUT_FILENO, name);
+pub fn label(rt: &impl Print, name: &[u8]) -> io::Result<()> {
+    rt.write_all(name)
 }
 
-pub fn end() {
-    io::write_all(STDOUT_FILENO, b"\n");
+pub fn end(rt: &impl Print) -> io::Result<()> {
+    rt.write_all(b"\n")
 }
 
-pub fn number(n: u64) {
-    io::write_all(STDOUT_FILENO, b" ");
-    io::print_decimal(STDOUT_FILENO, n);
+pub fn number(rt: &impl Print, n: u64) -> io::Result<()> {
+    rt.write_all(b" ")?;
+    rt.print(n)
 }
 
-pub fn signed(n: i64) {
+pub fn signed(rt: &impl Print, n: i64) -> io::Result<()> {
     let bits = types::signed::bits_of(n);
-    io::write_all(STDOUT_FILENO, b" ");
+    rt.write_all(b" ")?;
     if bits < 0x8000_0000_0000_0000 {
-        io::print_decimal(STDOUT_FILENO, bits);
+        rt.print(bits)
     } else {
-        io::write_all(STDOUT_FILENO, b"-");
-        io::print_decimal(STDOUT_FILENO, u64::MAX - bits + 1);
+        rt.write_all(b"-")?;
+        rt.print(u64::MAX - bits + 1)
     }
 }
 
-pub fn signed32(n: i32) {
-    signed(n as i64);
+pub fn signed32(rt: &impl Print, n: i32) -> io::Result<()> {
+    signed(rt, n as i64)
 }
 
 // In hexadecimal, two digits each.
-pub fn bytes(s: &[u8]) {
+pub fn bytes(rt: &impl Print, s: &[u8]) -> io::Result<()> {
     let mut i = 0;
     while i < s.len() {
-        io::write_all(STDOUT_FILENO, b" ");
-        io::print_hex(STDOUT_FILENO, s[i] as u64, 2);
+        rt.write_all(b" ")?;
+        let byte = s[i];
+        print!(rt; "{byte:02x}")?;
         i += 1;
     }
+    Ok(())
 }

@@ -1,6 +1,7 @@
 // The cases of document 01 that run sends.
 use crate::print::{end, label, number};
 use producer::state::ProducerState;
+use std::io;
 use types::answer::SendDecision;
 use types::message::{MaybePart, OutgoingMessage, Part};
 use types::optional::{MaybeBool, MaybeI32, MaybeI64, MaybeU64};
@@ -28,31 +29,32 @@ fn message(len: usize) -> OutgoingMessage {
     }
 }
 
-fn decision(d: SendDecision) {
+fn decision(rt: &impl Print, d: SendDecision) -> io::Result<()> {
     match d {
         SendDecision::Emit { count } => {
-            label(b" Emit");
-            number(count as u64);
+            label(rt, b" Emit")?;
+            number(rt, count as u64)?;
         }
         SendDecision::Batched => {
-            label(b" Batched");
+            label(rt, b" Batched")?;
         }
         SendDecision::Refused(e) => {
-            label(b" refused");
-            number(e.number() as u64);
+            label(rt, b" refused")?;
+            number(rt, e.number() as u64)?;
         }
     }
+    Ok(())
 }
 
 // A send under a setting: its answer, and the frames that wait then.
-fn sent(state: ProducerState, len: usize) {
+fn sent(rt: &impl Print, state: ProducerState, len: usize) -> io::Result<()> {
     let store = [0u8; 5121];
     let r = state.queue_send(&store, message(len), [0; 16], 1, 1);
     let answer = r.answer;
     let after = r.state;
-    decision(answer);
-    number(after.outbound_len() as u64);
-    end();
+    decision(rt, answer)?;
+    number(rt, after.outbound_len() as u64)?;
+    end(rt)
 }
 
 fn with(state: ProducerState, s: Setting) -> ProducerState {
@@ -62,21 +64,21 @@ fn with(state: ProducerState, s: Setting) -> ProducerState {
 }
 
 // Size limit 0, empty payload: joins and is flushed in the same call.
-pub fn joins_and_is_flushed() {
+pub fn joins_and_is_flushed(rt: &impl Print) -> io::Result<()> {
     let fresh = ProducerState::new(ProducerHandle(7));
     let batching = with(fresh, Setting::BatchingEnabled(true));
     let state = with(batching, Setting::MaxBatchSizeBytes(0));
-    label(b"B3");
-    sent(state, 0);
+    label(rt, b"B3")?;
+    sent(rt, state, 0)
 }
 
 // Limit 5: 1,024 chunks are taken, one more is not.
-pub fn as_many_chunks_as_frames() {
+pub fn as_many_chunks_as_frames(rt: &impl Print) -> io::Result<()> {
     let fresh = ProducerState::new(ProducerHandle(7));
     let chunking = with(fresh, Setting::ChunkingEnabled(true));
     let state = with(chunking, Setting::MaxMessageSize(5));
-    label(b"C4");
-    sent(state, 5120);
-    label(b"C4");
-    sent(state, 5121);
+    label(rt, b"C4")?;
+    sent(rt, state, 5120)?;
+    label(rt, b"C4")?;
+    sent(rt, state, 5121)
 }

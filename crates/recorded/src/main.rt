@@ -5,27 +5,42 @@
 ghost use Rattle.std.specs.Prelude.{◌≤◌, length};
 
 use host::run::run_script;
-use io::{print_decimal, read_full, write_all};
 use rules::numbers::at_most;
 use script::read::{byte_at, u32_at};
+use std::io;
+use std::io::Read;
 
-fn line(n: u64) {
-    print_decimal(1, n);
-    write_all(1, b"\n");
+fn line(rt: &impl Print, n: u64) -> io::Result<()> {
+    rt.println(n)
 }
 
-fn read_u32() -> usize {
+// Reads until the buffer is full, the input ends or a read fails, and answers how many bytes it put at its start.
+fn read_full(input: &mut impl Read, buffer: &mut [u8]) -> usize
+    ensures { result ≤ length buffer.new }
+{
+    let mut done = 0;
+    while done < buffer.len() {
+        let n = input.read(&mut buffer[done..]).unwrap_or(0);
+        if n == 0 {
+            break;
+        }
+        done += n;
+    }
+    done
+}
+
+fn read_u32(input: &mut impl Read) -> usize {
     let mut four = [0u8; 4];
-    read_full(0, &mut four);
+    read_full(input, &mut four);
     u32_at(&four, 0) as usize
 }
 
 // Reads so many bytes as stand before them, to the start of a buffer.
-fn read_bytes(buffer: &mut [u8]) -> usize
+fn read_bytes(input: &mut impl Read, buffer: &mut [u8]) -> usize
     ensures { result ≤ length buffer.old }
 {
-    let n = at_most(read_u32(), buffer.len());
-    read_full(0, &mut buffer[0..n]);
+    let n = at_most(read_u32(input), buffer.len());
+    read_full(input, &mut buffer[0..n]);
     n
 }
 
@@ -40,40 +55,48 @@ fn same(a: &[u8], n: usize, b: &[u8], m: usize) -> bool {
     all
 }
 
-fn agrees(script: &mut [u8], answers: &mut [u8], out: &mut [u8]) -> bool {
-    let room = at_most(read_u32(), out.len());
-    let n = read_bytes(script);
-    let m = read_bytes(answers);
+fn agrees(input: &mut impl Read, script: &mut [u8], answers: &mut [u8], out: &mut [u8]) -> bool {
+    let room = at_most(read_u32(input), out.len());
+    let n = read_bytes(input, script);
+    let m = read_bytes(input, answers);
     let k = run_script(&script[0..n], &mut out[0..room]);
     same(answers, m, out, k)
 }
 
-fn replay(script: &mut [u8], answers: &mut [u8], out: &mut [u8], count: usize) -> u64 {
+fn replay(
+    rt: &impl Print,
+    input: &mut impl Read,
+    script: &mut [u8],
+    answers: &mut [u8],
+    out: &mut [u8],
+    count: usize,
+) -> io::Result<u64> {
     let mut good: u64 = 0;
     let mut i: usize = 0;
     while i < count {
-        if agrees(script, answers, out) {
+        if agrees(input, script, answers, out) {
             good = next(good);
         } else {
-            line(i as u64);
+            line(rt, i as u64)?;
         }
         i += 1;
     }
-    good
+    Ok(good)
 }
 
 fn next(n: u64) -> u64 {
     if n < u64::MAX { n + 1 } else { n }
 }
 
-fn main() {
+fn main(rt: HostRuntime) -> io::Result<()> {
+    let mut input = rt.stdin();
     let mut head = [0u8; 5];
-    read_full(0, &mut head);
-    let count = read_u32();
+    read_full(&mut input, &mut head);
+    let count = read_u32(&mut input);
     let mut script = [0u8; 131072];
     let mut answers = [0u8; 32768];
     let mut out = [0u8; 131072];
-    line(count as u64);
-    let good = replay(&mut script, &mut answers, &mut out, count);
-    line(good);
+    line(&rt, count as u64)?;
+    let good = replay(&rt, &mut input, &mut script, &mut answers, &mut out, count)?;
+    line(&rt, good)
 }

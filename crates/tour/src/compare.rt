@@ -2,17 +2,14 @@
 // absent differs from empty and from false (document 01, 'How demand 3 is read').
 use crate::parts::bytes_at;
 use crate::read::{Message, Messages};
-use crate::{say, show, story};
+use crate::say::{self, Out};
+use crate::{show, story};
 use rules::batch::{same_txn, single_of};
 use types::message::{MaybePart, OutgoingMessage, Part, SingleMessage};
 use types::optional::{MaybeBool, MaybeU64};
 
 fn same_part(store: &[u8], p: Part, bytes: &[u8], q: Part) -> bool {
-    (p.len == q.len)
-        & check::same(
-            bytes_at(store, p.start, p.len),
-            bytes_at(bytes, q.start, q.len),
-        )
+    (p.len == q.len) & (bytes_at(store, p.start, p.len) == bytes_at(bytes, q.start, q.len))
 }
 
 fn same_key(store: &[u8], sent: MaybePart, bytes: &[u8], read: MaybePart) -> bool {
@@ -83,7 +80,7 @@ fn same_message(store: &[u8], sent: OutgoingMessage, bytes: &[u8], read: Message
 }
 
 // Shows the messages read, and answers whether each is the one sent under its number.
-fn same_list(store: &[u8], bytes: &[u8], read: Messages) -> bool {
+fn same_list(out: &mut Out, store: &[u8], bytes: &[u8], read: Messages) -> bool {
     let mut same = true;
     let mut i: usize = 0;
     while i < 16 {
@@ -91,7 +88,7 @@ fn same_list(store: &[u8], bytes: &[u8], read: Messages) -> bool {
             let m = read.list[i];
             let fields = m.fields;
             let txn_id = m.txn_id;
-            show::message(i + 1, bytes, fields, txn_id);
+            show::message(out, i + 1, bytes, fields, txn_id);
             same = same & same_message(store, story::message(i as u64 + 1), bytes, m);
         }
         i += 1;
@@ -99,15 +96,15 @@ fn same_list(store: &[u8], bytes: &[u8], read: Messages) -> bool {
     same
 }
 
-pub fn compare(store: &[u8], bytes: &[u8], read: Messages) {
-    let same = same_list(store, bytes, read);
-    say::number(story::MESSAGES);
-    say::text(b" messages sent, ");
-    say::number(read.len as u64);
-    say::text(b" read, the same in every field and in order: ");
+pub fn compare(out: &mut Out, store: &[u8], bytes: &[u8], read: Messages) {
+    let same = same_list(out, store, bytes, read);
+    say::number(out, story::MESSAGES);
+    say::text(out, b" messages sent, ");
+    say::number(out, read.len as u64);
+    say::text(out, b" read, the same in every field and in order: ");
     if same & read.good & (read.len as u64 == story::MESSAGES) {
-        say::line(b"yes");
+        say::line(out, b"yes");
     } else {
-        say::line(b"no");
+        say::line(out, b"no");
     }
 }

@@ -1,32 +1,57 @@
 // Words and numbers on standard output.
-use libc::STDOUT_FILENO;
+use std::io;
+use std::io::Stdout;
 use types::error::ProducerError;
 
-pub fn text(s: &[u8]) {
-    io::write_all(STDOUT_FILENO, s);
+// Standard output, and whether every write so far succeeded. Nothing is written behind a write that failed.
+#[derive(Drop)]
+pub struct Out {
+    to: Stdout,
+    written: io::Result<()>,
 }
 
-pub fn line(s: &[u8]) {
-    text(s);
-    text(b"\n");
+impl Out {
+    pub fn new(to: Stdout) -> Out {
+        Out {
+            to: to,
+            written: Ok(()),
+        }
+    }
+
+    pub fn written(self) -> io::Result<()> {
+        self.written
+    }
 }
 
-pub fn heading(s: &[u8]) {
-    text(b"\n");
-    line(s);
+pub fn text(out: &mut Out, s: &[u8]) {
+    if out.written.is_ok() {
+        out.written = out.to.write_all(s);
+    }
 }
 
-pub fn number(n: u64) {
-    io::print_decimal(STDOUT_FILENO, n);
+pub fn line(out: &mut Out, s: &[u8]) {
+    text(out, s);
+    text(out, b"\n");
+}
+
+pub fn heading(out: &mut Out, s: &[u8]) {
+    text(out, b"\n");
+    line(out, s);
+}
+
+pub fn number(out: &mut Out, n: u64) {
+    if out.written.is_ok() {
+        out.written = out.to.print(n);
+    }
 }
 
 // A number and what it counts.
-pub fn count(n: u64, one: &[u8], more: &[u8]) {
-    number(n);
+pub fn count(out: &mut Out, n: u64, one: &[u8], more: &[u8]) {
+    number(out, n);
     if n == 1 {
-        text(one);
+        text(out, one);
     } else {
-        text(more);
+        text(out, more);
     }
 }
 
@@ -41,28 +66,28 @@ fn printed(b: u8) -> u8 {
     }
 }
 
-pub fn printable(s: &[u8]) {
+pub fn printable(out: &mut Out, s: &[u8]) {
     let mut i = 0;
     while i < s.len() {
         let one = [printed(s[i])];
-        text(&one);
+        text(out, &one);
         i += 1;
     }
 }
 
 // Document 01, 'Who can cause a refusal'.
-pub fn refusal(e: ProducerError) {
-    text(b"refused by ");
-    number(e.number() as u64);
+pub fn refusal(out: &mut Out, e: ProducerError) {
+    text(out, b"refused by ");
+    number(out, e.number() as u64);
     match e {
         ProducerError::PartOutside => {
-            text(b", a part ends outside the store");
+            text(out, b", a part ends outside the store");
         }
         ProducerError::NoFrame => {
-            text(b", no frame waits");
+            text(out, b", no frame waits");
         }
         ProducerError::NotAnswerable => {
-            text(b", the id is not answerable");
+            text(out, b", the id is not answerable");
         }
         _ => {}
     }

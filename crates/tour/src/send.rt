@@ -1,5 +1,6 @@
 // The messages go to the queue (document 01, 'sends').
-use crate::{say, story};
+use crate::say::{self, Out};
+use crate::story;
 use producer::state::ProducerState;
 use rules::numbers::saturating_sub;
 use types::answer::{CountOutcome, SendDecision};
@@ -14,20 +15,20 @@ const UUID: [u8; 16] = [
 const NOW: u64 = 1_700_000_000_500;
 
 // A send that pushes more frames than its message has flushes the waiting batch.
-fn decision(d: SendDecision, pushed: usize) {
+fn decision(out: &mut Out, d: SendDecision, pushed: usize) {
     match d {
         SendDecision::Emit { count } => {
             if count < pushed {
-                say::text(b"flushes the batch and ");
+                say::text(out, b"flushes the batch and ");
             }
-            say::text(b"goes out in ");
-            say::count(count as u64, b" frame", b" frames");
+            say::text(out, b"goes out in ");
+            say::count(out, count as u64, b" frame", b" frames");
         }
         SendDecision::Batched => {
-            say::text(b"joins the batch");
+            say::text(out, b"joins the batch");
         }
         SendDecision::Refused(e) => {
-            say::refusal(e);
+            say::refusal(out, e);
         }
     }
 }
@@ -47,91 +48,91 @@ pub fn standing_of(s: ProducerState) -> Standing {
     }
 }
 
-pub fn say_pending(t: Standing) {
-    say::count(t.pending, b" entry", b" entries");
-    say::line(b" pending");
+pub fn say_pending(out: &mut Out, t: Standing) {
+    say::count(out, t.pending, b" entry", b" entries");
+    say::line(out, b" pending");
 }
 
-pub fn say_standing(t: Standing) {
-    say::count(t.waiting as u64, b" frame", b" frames");
-    say::text(b" waiting, ");
-    say_pending(t);
+pub fn say_standing(out: &mut Out, t: Standing) {
+    say::count(out, t.waiting as u64, b" frame", b" frames");
+    say::text(out, b" waiting, ");
+    say_pending(out, t);
 }
 
-fn say_sent(len: usize, answer: SendDecision, before: Standing, after: Standing) {
-    say::text(b" of ");
-    say::count(len as u64, b" byte: ", b" bytes: ");
-    decision(answer, saturating_sub(after.waiting, before.waiting));
-    say::text(b"; ");
-    say_standing(after);
+fn say_sent(out: &mut Out, len: usize, answer: SendDecision, before: Standing, after: Standing) {
+    say::text(out, b" of ");
+    say::count(out, len as u64, b" byte: ", b" bytes: ");
+    decision(out, answer, saturating_sub(after.waiting, before.waiting));
+    say::text(out, b"; ");
+    say_standing(out, after);
 }
 
-fn send(s: ProducerState, store: &[u8], m: OutgoingMessage) -> ProducerState {
+fn send(out: &mut Out, s: ProducerState, store: &[u8], m: OutgoingMessage) -> ProducerState {
     let payload = m.payload;
     let r = s.queue_send(store, m, UUID, NOW, NOW);
     let answer = r.answer;
     let after = r.state;
-    say_sent(payload.len, answer, standing_of(s), standing_of(after));
+    say_sent(out, payload.len, answer, standing_of(s), standing_of(after));
     after
 }
 
-fn announce(id: u64) {
-    say::text(b"message ");
-    say::number(id);
+fn announce(out: &mut Out, id: u64) {
+    say::text(out, b"message ");
+    say::number(out, id);
     match id {
         1 | 2 => {
-            say::text(b", a quote");
+            say::text(out, b", a quote");
         }
         3 => {
-            say::text(b", a quote taken back,");
+            say::text(out, b", a quote taken back,");
         }
         4 => {
-            say::text(b", the rate table");
+            say::text(out, b", the rate table");
         }
         5 => {
-            say::text(b", a replicated quote");
+            say::text(out, b", a replicated quote");
         }
         _ => {
-            say::text(b", in a transaction,");
+            say::text(out, b", in a transaction,");
         }
     }
 }
 
 // In their order.
-pub fn send_all(mut s: ProducerState, store: &[u8]) -> ProducerState {
+pub fn send_all(out: &mut Out, mut s: ProducerState, store: &[u8]) -> ProducerState {
     let mut id: u64 = 1;
     while id <= story::MESSAGES {
-        announce(id);
-        s = send(s, store, story::message(id));
+        announce(out, id);
+        s = send(out, s, store, story::message(id));
         id += 1;
     }
     s
 }
 
 // A refused send changes nothing, and no id is spent on it.
-pub fn send_too_long(s: ProducerState, store: &[u8]) -> ProducerState {
-    say::text(b"one more message");
-    send(s, store, story::too_long())
+pub fn send_too_long(out: &mut Out, s: ProducerState, store: &[u8]) -> ProducerState {
+    say::text(out, b"one more message");
+    send(out, s, store, story::too_long())
 }
 
-fn say_flushed(answer: CountOutcome, after: Standing) {
-    say::text(b"flush: ");
+fn say_flushed(out: &mut Out, answer: CountOutcome, after: Standing) {
+    say::text(out, b"flush: ");
     match answer {
         CountOutcome::Count(n) => {
-            say::count(n as u64, b" frame", b" frames");
+            say::count(out, n as u64, b" frame", b" frames");
         }
         CountOutcome::Refused(e) => {
-            say::refusal(e);
+            say::refusal(out, e);
         }
     }
-    say::text(b"; ");
-    say_standing(after);
+    say::text(out, b"; ");
+    say_standing(out, after);
 }
 
-pub fn flush(s: ProducerState) -> ProducerState {
+pub fn flush(out: &mut Out, s: ProducerState) -> ProducerState {
     let r = s.flush_batch(NOW, NOW);
     let answer = r.answer;
     let after = r.state;
-    say_flushed(answer, standing_of(after));
+    say_flushed(out, answer, standing_of(after));
     after
 }

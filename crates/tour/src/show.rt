@@ -1,6 +1,6 @@
 // Frames and messages in words.
 use crate::parts::bytes_at;
-use crate::say;
+use crate::say::{self, Out};
 use rules::numbers::saturating_add_u64;
 use types::message::{MaybePart, SingleMessage};
 use types::optional::{MaybeBool, MaybeU64};
@@ -8,130 +8,130 @@ use types::outbound::{MessageMetadata, OutboundFrame, UuidText};
 use types::txn::MaybeTxnId;
 use types::types::SequenceId;
 
-fn number(before: &[u8], n: MaybeU64) {
+fn number(out: &mut Out, before: &[u8], n: MaybeU64) {
     if let MaybeU64::Present(x) = n {
-        say::text(before);
-        say::number(x);
+        say::text(out, before);
+        say::number(out, x);
     }
 }
 
-fn kind(m: MessageMetadata) {
+fn kind(out: &mut Out, m: MessageMetadata) {
     let count = m.num_messages_in_batch;
     let chunk_id = m.chunk_id;
     let chunks = m.num_chunks_from_msg;
     match count {
         MaybeU64::Present(n) => {
-            say::text(b"batch of ");
-            say::count(n, b" message", b" messages");
+            say::text(out, b"batch of ");
+            say::count(out, n, b" message", b" messages");
         }
         MaybeU64::Absent => match chunk_id {
             MaybeU64::Present(n) => {
-                say::text(b"chunk ");
-                say::number(saturating_add_u64(n, 1));
-                number(b" of ", chunks);
+                say::text(out, b"chunk ");
+                say::number(out, saturating_add_u64(n, 1));
+                number(out, b" of ", chunks);
             }
             MaybeU64::Absent => {
-                say::text(b"single message");
+                say::text(out, b"single message");
             }
         },
     }
 }
 
-fn ids(lowest: SequenceId, highest: MaybeU64) {
+fn ids(out: &mut Out, lowest: SequenceId, highest: MaybeU64) {
     match highest {
         MaybeU64::Present(n) => {
-            say::text(b", sequence ids ");
-            say::number(lowest.0);
-            say::text(b" to ");
-            say::number(n);
+            say::text(out, b", sequence ids ");
+            say::number(out, lowest.0);
+            say::text(out, b" to ");
+            say::number(out, n);
         }
         MaybeU64::Absent => {
-            say::text(b", sequence id ");
-            say::number(lowest.0);
+            say::text(out, b", sequence id ");
+            say::number(out, lowest.0);
         }
     }
 }
 
-fn transaction(t: MaybeTxnId) {
+fn transaction(out: &mut Out, t: MaybeTxnId) {
     if let MaybeTxnId::Present(id) = t {
-        say::text(b", transaction ");
-        say::number(id.most_sig_bits);
-        say::text(b":");
-        say::number(id.least_sig_bits);
+        say::text(out, b", transaction ");
+        say::number(out, id.most_sig_bits);
+        say::text(out, b":");
+        say::number(out, id.least_sig_bits);
     }
 }
 
-fn uuid(u: UuidText) {
+fn uuid(out: &mut Out, u: UuidText) {
     let text = u.text;
     if u.present {
-        say::text(b", uuid ");
-        say::text(&text);
+        say::text(out, b", uuid ");
+        say::text(out, &text);
     }
 }
 
-fn quoted(payload: &[u8]) {
-    say::text(b"\"");
-    say::printable(payload);
-    say::line(b"\"");
+fn quoted(out: &mut Out, payload: &[u8]) {
+    say::text(out, b"\"");
+    say::printable(out, payload);
+    say::line(out, b"\"");
 }
 
 // Its metadata in a line, and its payload in another, where a dot stands for a byte that is no printed character.
-pub fn frame(place: usize, f: OutboundFrame, payload: &[u8]) {
+pub fn frame(out: &mut Out, place: usize, f: OutboundFrame, payload: &[u8]) {
     let m = f.metadata;
     let lowest = m.sequence_id;
     let highest = m.highest_sequence_id;
     let txn_id = m.txn_id;
     let size = m.total_chunk_msg_size;
     let text = m.uuid;
-    say::text(b"frame ");
-    say::number(place as u64);
-    say::text(b": ");
-    kind(m);
-    ids(lowest, highest);
-    transaction(txn_id);
-    say::text(b", payload ");
-    say::number(f.payload_len as u64);
-    number(b" of ", size);
-    say::text(b" bytes");
-    uuid(text);
-    say::line(b"");
-    say::text(b"    ");
-    quoted(payload);
+    say::text(out, b"frame ");
+    say::number(out, place as u64);
+    say::text(out, b": ");
+    kind(out, m);
+    ids(out, lowest, highest);
+    transaction(out, txn_id);
+    say::text(out, b", payload ");
+    say::number(out, f.payload_len as u64);
+    number(out, b" of ", size);
+    say::text(out, b" bytes");
+    uuid(out, text);
+    say::line(out, b"");
+    say::text(out, b"    ");
+    quoted(out, payload);
 }
 
-fn key(name: &[u8], bytes: &[u8], k: MaybePart) {
+fn key(out: &mut Out, name: &[u8], bytes: &[u8], k: MaybePart) {
     if let MaybePart::Present(p) = k {
-        say::text(name);
-        say::printable(bytes_at(bytes, p.start, p.len));
+        say::text(out, name);
+        say::printable(out, bytes_at(bytes, p.start, p.len));
     }
 }
 
-fn mark(name: &[u8], m: MaybeBool) {
+fn mark(out: &mut Out, name: &[u8], m: MaybeBool) {
     if let MaybeBool::Present(yes) = m {
         if yes {
-            say::text(name);
+            say::text(out, name);
         }
     }
 }
 
 // A message whose parts are in the bytes.
-pub fn message(place: usize, bytes: &[u8], m: SingleMessage, txn_id: MaybeTxnId) {
+pub fn message(out: &mut Out, place: usize, bytes: &[u8], m: SingleMessage, txn_id: MaybeTxnId) {
     let payload = m.payload;
     let partition_key = m.partition_key;
     let ordering_key = m.ordering_key;
     let event_time = m.event_time;
     let null_value = m.null_value;
     let null_partition_key = m.null_partition_key;
-    say::text(b"message ");
-    say::number(place as u64);
-    say::text(b": ");
-    say::count(payload.len as u64, b" byte", b" bytes");
-    key(b", key ", bytes, partition_key);
-    mark(b", null key", null_partition_key);
-    key(b", ordering key ", bytes, ordering_key);
-    number(b", event time ", event_time);
-    mark(b", null value", null_value);
-    transaction(txn_id);
-    say::text(b" ");
-    quoted(bytes_at(bytes, payload.start, payload.len));
+    say::text(out, b"message ");
+    say::number(out, place as u64);
+    say::text(out, b": ");
+    say::count(out, payload.len as u64, b" byte", b" bytes");
+    key(out, b", key ", bytes, partition_key);
+    mark(out, b", null key", null_partition_key);
+    key(out, b", ordering key ", bytes, ordering_key);
+    number(out, b", event time ", event_time);
+    mark(out, b", null value", null_value);
+    transaction(out, txn_id);
+    say::text(out, b" ");
+    quoted(out, bytes_at(bytes, payload.start, payload.len));
 }

@@ -1,5 +1,5 @@
 // A tariff engine's producer, and the messages that it is to send.
-use crate::say;
+use crate::say::{self, Out};
 use producer::state::ProducerState;
 use rules::blank::no_message;
 use rules::numbers::saturating_add;
@@ -41,12 +41,12 @@ pub fn tariff() -> ProducerState {
     s.set_initial_sequence_id(1)
 }
 
-pub fn introduce() {
-    say::text(b"Producer tariff: a message over ");
-    say::number(MESSAGE_LIMIT as u64);
-    say::text(b" bytes goes out in chunks, a batch holds up to ");
-    say::number(BATCH_LIMIT as u64);
-    say::line(b" bytes of payload.");
+pub fn introduce(out: &mut Out) {
+    say::text(out, b"Producer tariff: a message over ");
+    say::number(out, MESSAGE_LIMIT as u64);
+    say::text(out, b" bytes goes out in chunks, a batch holds up to ");
+    say::number(out, BATCH_LIMIT as u64);
+    say::line(out, b" bytes of payload.");
 }
 
 // A row of the store: a key in its first 8 bytes, a payload behind them.

@@ -1,6 +1,7 @@
 // The frames are taken from the front, and kept.
 use crate::parts::bytes_at;
-use crate::{say, show};
+use crate::say::{self, Out};
+use crate::show;
 use producer::state::ProducerState;
 use rules::batch::single_of;
 use rules::blank::no_message;
@@ -68,8 +69,9 @@ fn put(bytes: &mut [u8], at: usize, key: &[u8]) -> usize {
     if bytes.len() - at < key.len() {
         return at;
     }
-    bytes::copy(key, &mut bytes[at..]);
-    at + key.len()
+    let end = at + key.len();
+    bytes[at..end].copy_from_slice(key);
+    end
 }
 
 fn put_key(bytes: &mut [u8], at: usize, store: &[u8], key: MaybePart) -> Key {
@@ -148,6 +150,7 @@ fn keep(mut frames: Frames, bytes: &mut [u8], store: &[u8], f: OutboundFrame) ->
 
 // Shows a frame taken, and keeps it; or shows the refusal.
 fn told(
+    out: &mut Out,
     frames: Frames,
     bytes: &mut [u8],
     store: &[u8],
@@ -157,13 +160,18 @@ fn told(
     match answer {
         Outcome::Done => {
             let kept = keep(frames, bytes, store, f);
-            show::frame(kept.len, f, bytes_at(bytes, frames.payloads, f.payload_len));
+            show::frame(
+                out,
+                kept.len,
+                f,
+                bytes_at(bytes, frames.payloads, f.payload_len),
+            );
             kept
         }
         Outcome::Refused(e) => {
-            say::text(b"one more take: ");
-            say::refusal(e);
-            say::line(b"");
+            say::text(out, b"one more take: ");
+            say::refusal(out, e);
+            say::line(out, b"");
             frames
         }
     }
@@ -175,7 +183,7 @@ pub struct Taking {
     pub frames: Frames,
 }
 
-fn take(t: Taking, store: &[u8], bytes: &mut [u8]) -> Taking {
+fn take(out: &mut Out, t: Taking, store: &[u8], bytes: &mut [u8]) -> Taking {
     let s = t.state;
     let frames = t.frames;
     let end = at_most(Frames::KEYS, bytes.len());
@@ -184,7 +192,7 @@ fn take(t: Taking, store: &[u8], bytes: &mut [u8]) -> Taking {
     let answer = r.answer;
     let frame = r.frame;
     let state = r.state;
-    let kept = told(frames, bytes, store, answer, frame);
+    let kept = told(out, frames, bytes, store, answer, frame);
     Taking {
         state: state,
         frames: kept,
@@ -192,7 +200,7 @@ fn take(t: Taking, store: &[u8], bytes: &mut [u8]) -> Taking {
 }
 
 // Every frame that waits, and a take more, which is refused.
-pub fn take_all(s: ProducerState, store: &[u8], bytes: &mut [u8; 1024]) -> Taking {
+pub fn take_all(out: &mut Out, s: ProducerState, store: &[u8], bytes: &mut [u8; 1024]) -> Taking {
     let takes = saturating_add(s.outbound_len(), 1);
     let mut t = Taking {
         state: s,
@@ -200,7 +208,7 @@ pub fn take_all(s: ProducerState, store: &[u8], bytes: &mut [u8; 1024]) -> Takin
     };
     let mut i: usize = 0;
     while i < takes {
-        t = take(t, store, bytes);
+        t = take(out, t, store, bytes);
         i += 1;
     }
     t
