@@ -1,0 +1,84 @@
+-- `host::in_place::run_in_place`: an operation in each turn; the place in the script goes up. A plan's places lie in their rings,
+use Rattle.std.proofs.Common.{◌-◌, length, ⊎_elim, arith, rules}
+use Rattle.script.specs.Output.{Wrote}
+use Rattle.script.proofs.Outputs.{nothing, next}
+use Rattle.host.proofs.Framing.{completed, laid_inside}
+use Rattle.host.proofs.Loops.{inside, less, there, Keys, keyed, alike, kept, marked}
+use Rattle.host.proofs.in_place.run_in_place.Goals as goal
+
+pub offset_bounds-s-at1 : goal.offset_bounds-s-at1
+offset_bounds-s-at1 c = omega (arith, (there _ _ _ c.plan_send-d.ensures).first)
+
+pub bounds-s-at1 : goal.bounds-s-at1
+bounds-s-at1 c = (there _ _ _ c.plan_send-d.ensures).first
+
+pub offset_bounds-s-at2 : goal.offset_bounds-s-at2
+offset_bounds-s-at2 c = omega (arith, (there _ _ _ c.plan_send-d.ensures).second)
+
+pub bounds-s-at2 : goal.bounds-s-at2
+bounds-s-at2 c = (there _ _ _ c.plan_send-d.ensures).second
+
+pub offset_bounds-s-at3 : goal.offset_bounds-s-at3
+offset_bounds-s-at3 c = omega (arith, (there _ _ _ c.plan_send-d.ensures).entry)
+
+pub bounds-s-at3 : goal.bounds-s-at3
+bounds-s-at3 c = (there _ _ _ c.plan_send-d.ensures).entry
+
+pub offset_bounds-s-at3-then-d-3 : goal.offset_bounds-s-at3-then-d-3
+offset_bounds-s-at3-then-d-3 c = omega (arith, (there _ _ _ c.plan_send-d.ensures).entry)
+
+pub bounds-s-at3-then-d-3 : goal.bounds-s-at3-then-d-3
+bounds-s-at3-then-d-3 c = (there _ _ _ c.plan_send-d.ensures).entry
+
+pub bounds-s-at3-then-d-3-2 : goal.bounds-s-at3-then-d-3-2
+bounds-s-at3-then-d-3-2 c = (there _ _ _ c.plan_send-d.ensures).entry
+
+pub offset_bounds-s-at4 : goal.offset_bounds-s-at4
+offset_bounds-s-at4 c = omega (arith, (there _ _ _ c.plan_send-d.ensures).held)
+
+pub bounds-s-at4 : goal.bounds-s-at4
+bounds-s-at4 c = (there _ _ _ c.plan_send-d.ensures).held
+
+pub loop-j-preserved : goal.loop-j-preserved
+loop-j-preserved c = next c.loop-j.invariant c.put_held-laid.ensures
+
+pub loop-store-preserved-after-d-4 : goal.loop-store-preserved-after-d-4
+loop-store-preserved-after-d-4 c = let k = c.loop-store.invariant.1 in
+    let k2 : Keys c.if-d.s = ⊎_elim (λ w. alike w.2 k) (λ w. alike w.1 k) c.if-d.branch in
+    let k3 : Keys c.if-d-2.s = ⊎_elim (λ w. alike w.2 k2) (λ w. alike w.1 k2) c.if-d-2.branch in
+    let k4 : Keys c.if-d-3.s = ⊎_elim (λ w. alike w.2 (kept _ _ _ k3)) (λ w. alike w.1 k3) c.if-d-3.branch in
+    let k5 : Keys c.if-d-4.s = ⊎_elim (λ w. alike w.2 k4) (λ w. alike w.1 k4) c.if-d-4.branch in
+    (next (next c.loop-store.invariant.0 c.next_step-step.ensures.1) c.put_decision-to.ensures, k5)
+
+pub loop-store-preserved-after-loop-j : goal.loop-store-preserved-after-loop-j
+loop-store-preserved-after-loop-j c = (next (next c.loop-store.invariant.0 c.next_step-step.ensures.1) (completed c.put_frame-to.ensures c.loop-j.invariant), c.loop-store.invariant.1)
+
+pub loop-store-preserved-else-p : goal.loop-store-preserved-else-p
+loop-store-preserved-else-p c = (next (next c.loop-store.invariant.0 c.next_step-step.ensures.1) c.put_outcome-to.ensures, c.loop-store.invariant.1)
+
+pub loop-store-preserved-else-is_batch : goal.loop-store-preserved-else-is_batch
+loop-store-preserved-else-is_batch c = (next (next c.loop-store.invariant.0 c.next_step-step.ensures.1) c.take_message-r.ensures, c.loop-store.invariant.1)
+
+pub loop-store-preserved-after-i-gt0 : goal.loop-store-preserved-after-i-gt0
+loop-store-preserved-after-i-gt0 c =
+    let k4 : Keys c.if-repeated.s = ⊎_elim (λ w. alike w.3 w.1.inv) (λ w. alike w.1 c.before.before.before.before.before.before.before.before.before.before.before.before.before.before.before.before.before.before.before.before.before.before.before.before.before.before.before.before.before.before.before.before.before.before.before.before.before.loop.invariant.1) c.if-repeated.branch in
+    let k5 : Keys c.if-i-gt0.s = ⊎_elim (λ w. alike w.3 w.1.inv) (λ w. alike w.1 k4) c.if-i-gt0.branch in
+    (next (next (next c.before.before.before.before.before.before.before.before.before.before.before.before.before.before.before.before.before.before.before.before.before.before.before.before.before.before.before.before.before.before.before.before.before.before.before.before.before.loop.invariant.0 c.before.before.before.before.before.before.before.before.before.before.before.before.before.before.before.before.before.before.before.before.before.before.before.before.before.before.before.before.before.before.before.before.before.before.before.next-step.ensures.1) c.put_settled-told.ensures) c.put_publish-to.ensures, k5)
+
+pub loop-store-preserved-in-Nothing : goal.loop-store-preserved-in-Nothing
+loop-store-preserved-in-Nothing c = (next (next c.before.before.before.before.before.before.before.before.before.before.before.before.before.before.before.before.before.before.before.before.before.loop.invariant.0 c.before.before.before.before.before.before.before.before.before.before.before.before.before.before.before.before.before.before.before.next-step.ensures.1) c.put_refusal-to.ensures, c.before.before.before.before.before.before.before.before.before.before.before.before.before.before.before.before.before.before.before.before.before.loop.invariant.1)
+
+pub loop-store-preserved-then-p-2 : goal.loop-store-preserved-then-p-2
+loop-store-preserved-then-p-2 c = (next (next c.loop-store.invariant.0 c.next_step-step.ensures.1) c.plan-p.ensures.answered, c.loop-store.invariant.1)
+
+pub loop-store-preserved-else-p-2 : goal.loop-store-preserved-else-p-2
+loop-store-preserved-else-p-2 c = (next (next c.loop-store.invariant.0 c.next_step-step.ensures.1) c.plan-p.ensures.answered, c.loop-store.invariant.1)
+
+pub loop-store-preserved-in-Lent : goal.loop-store-preserved-in-Lent
+loop-store-preserved-in-Lent c = (next (next c.loop-store.invariant.0 c.next_step-step.ensures.1) c.call_lent-r.ensures, keyed c.call_lent-r.result.state c.call_lent-r.type_inv.0.0 c.call_lent-r.type_inv.1.1.0)
+
+pub loop-store-preserved : goal.loop-store-preserved
+loop-store-preserved c = (next (next c.loop-store.invariant.0 c.next_step-step.ensures.1) c.call-r.ensures, keyed c.call-r.result.state c.call-r.type_inv.0.0 c.call-r.type_inv.1.1.0)
+
+pub returns : goal.returns
+returns c = next c.loop-store.invariant.0 c.next_step-step.ensures.1
