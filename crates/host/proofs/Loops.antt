@@ -42,8 +42,8 @@ Keys s = Keyed s.pending_ids s.pending_marks
 pub keyed : (s : ProducerState) (vs : List Val) → Is (row the_type) s vs → Keys s
 keyed s vs g =
     record {
-      ids = sym (length-map s.pending_ids _) ∙ g.1.1.1.1.1.1.0.1.0.1;
-      marks = sym (length-map s.pending_marks _) ∙ g.1.1.1.1.1.1.1.0.1.0.1;
+      ids = g.1.1.1.1.1.1.0.1.0.1;
+      marks = g.1.1.1.1.1.1.1.0.1.0.1;
     }
 
 pub alike : {s t : ProducerState} → s ≡ t → Keys t → Keys s

@@ -5,10 +5,10 @@ ghost use Rattle.script.specs.Output.{Wrote};
 ghost use Rattle.host.specs.Lays.{Message, Lays};
 
 use crate::take::{put_taken, up_to};
-use plans::state::Core;
-use plans::take::TakePlan;
 use frames::inside::single_inside;
 use frames::span::{Span, message_span};
+use plans::state::Core;
+use plans::take::TakePlan;
 use rules::bounds::part_in;
 use script::read::{behind, lent_of, u64_at, usize_at};
 use types::frame::FrameRecord;

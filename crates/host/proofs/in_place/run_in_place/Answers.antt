@@ -5,6 +5,7 @@ use Rattle.script.proofs.Outputs.{nothing, next}
 use Rattle.host.proofs.Framing.{completed, laid_inside}
 use Rattle.host.proofs.Loops.{inside, less, there, Keys, keyed, alike, kept, marked}
 use Rattle.host.proofs.in_place.run_in_place.Goals as goal
+use Rattle.host.proofs.in_place.run_in_place.Goals.{then-d, else-d, then-d-2, else-d-2, then-d-3, else-d-3, then-d-4, else-d-4, then-repeated+else-loop-k-test, else-repeated, then-i-gt0+else-loop-j-then-i-gt0-test, else-i-gt0}
 
 pub offset_bounds-s-at1 : goal.offset_bounds-s-at1
 offset_bounds-s-at1 c = omega (arith, (there _ _ _ c.plan_send-d.ensures).first)
@@ -43,11 +44,12 @@ pub loop-j-preserved : goal.loop-j-preserved
 loop-j-preserved c = next c.loop-j.invariant c.put_held-laid.ensures
 
 pub loop-store-preserved-after-d-4 : goal.loop-store-preserved-after-d-4
-loop-store-preserved-after-d-4 c = let k = c.loop-store.invariant.1 in
-    let k2 : Keys c.if-d.s = ⊎_elim (λ w. alike w.2 k) (λ w. alike w.1 k) c.if-d.branch in
-    let k3 : Keys c.if-d-2.s = ⊎_elim (λ w. alike w.2 k2) (λ w. alike w.1 k2) c.if-d-2.branch in
-    let k4 : Keys c.if-d-3.s = ⊎_elim (λ w. alike w.2 (kept _ _ _ k3)) (λ w. alike w.1 k3) c.if-d-3.branch in
-    let k5 : Keys c.if-d-4.s = ⊎_elim (λ w. alike w.2 k4) (λ w. alike w.1 k4) c.if-d-4.branch in
+loop-store-preserved-after-d-4 c =
+    let k = c.loop-store.invariant.1 in
+    let k2 : Keys c.if-d.s = elim c.if-d.branch [ then-d w ↦ alike w.s-is k | else-d w ↦ alike w.s-is k ] in
+    let k3 : Keys c.if-d-2.s = elim c.if-d-2.branch [ then-d-2 w ↦ alike w.s-is k2 | else-d-2 w ↦ alike w.s-is k2 ] in
+    let k4 : Keys c.if-d-3.s = elim c.if-d-3.branch [ then-d-3 w ↦ alike w.s-is (kept _ _ _ k3) | else-d-3 w ↦ alike w.s-is k3 ] in
+    let k5 : Keys c.if-d-4.s = elim c.if-d-4.branch [ then-d-4 w ↦ alike w.s-is k4 | else-d-4 w ↦ alike w.s-is k4 ] in
     (next (next c.loop-store.invariant.0 c.next_step-step.ensures.1) c.put_decision-to.ensures, k5)
 
 pub loop-store-preserved-after-loop-j : goal.loop-store-preserved-after-loop-j
@@ -61,12 +63,21 @@ loop-store-preserved-else-is_batch c = (next (next c.loop-store.invariant.0 c.ne
 
 pub loop-store-preserved-after-i-gt0 : goal.loop-store-preserved-after-i-gt0
 loop-store-preserved-after-i-gt0 c =
-    let k4 : Keys c.if-repeated.s = ⊎_elim (λ w. alike w.3 w.1.inv) (λ w. alike w.1 c.before.before.before.before.before.before.before.before.before.before.before.before.before.before.before.before.before.before.before.before.before.before.before.before.before.before.before.before.before.before.before.before.before.before.before.before.before.loop.invariant.1) c.if-repeated.branch in
-    let k5 : Keys c.if-i-gt0.s = ⊎_elim (λ w. alike w.3 w.1.inv) (λ w. alike w.1 k4) c.if-i-gt0.branch in
-    (next (next (next c.before.before.before.before.before.before.before.before.before.before.before.before.before.before.before.before.before.before.before.before.before.before.before.before.before.before.before.before.before.before.before.before.before.before.before.before.before.loop.invariant.0 c.before.before.before.before.before.before.before.before.before.before.before.before.before.before.before.before.before.before.before.before.before.before.before.before.before.before.before.before.before.before.before.before.before.before.before.next-step.ensures.1) c.put_settled-told.ensures) c.put_publish-to.ensures, k5)
+    let k4 : Keys c.if-repeated.s =
+    elim c.if-repeated.branch [
+      | then-repeated+else-loop-k-test w ↦ alike w.s-is w.loop-k.invariant
+      | else-repeated w ↦ alike w.s-is c.loop-store.invariant.1
+    ] in
+    let k5 : Keys c.if-i-gt0.s =
+    elim c.if-i-gt0.branch [
+      | then-i-gt0+else-loop-j-then-i-gt0-test w ↦ alike w.s-is w.loop-j-then-i-gt0.invariant
+      | else-i-gt0 w ↦ alike w.s-is k4
+    ] in
+    (next (next (next c.loop-store.invariant.0 c.next_step-step.ensures.1) c.put_settled-told.ensures) c.put_publish-to.ensures, k5)
 
 pub loop-store-preserved-in-Nothing : goal.loop-store-preserved-in-Nothing
-loop-store-preserved-in-Nothing c = (next (next c.before.before.before.before.before.before.before.before.before.before.before.before.before.before.before.before.before.before.before.before.before.loop.invariant.0 c.before.before.before.before.before.before.before.before.before.before.before.before.before.before.before.before.before.before.before.next-step.ensures.1) c.put_refusal-to.ensures, c.before.before.before.before.before.before.before.before.before.before.before.before.before.before.before.before.before.before.before.before.before.loop.invariant.1)
+loop-store-preserved-in-Nothing c =
+    (next (next c.loop-store.invariant.0 c.next_step-step.ensures.1) c.put_refusal-to.ensures, c.loop-store.invariant.1)
 
 pub loop-store-preserved-then-p-2 : goal.loop-store-preserved-then-p-2
 loop-store-preserved-then-p-2 c = (next (next c.loop-store.invariant.0 c.next_step-step.ensures.1) c.plan-p.ensures.answered, c.loop-store.invariant.1)

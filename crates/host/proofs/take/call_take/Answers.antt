@@ -5,4 +5,4 @@ use Rattle.host.proofs.take.call_take.Goals as goal
 
 pub returns : goal.returns
 returns c =
-    took _ c.next_outbound_frame-r.result c.next_outbound_frame-r.ensures.1.0 c.put_taken.ensures (search rules) (search rules) (search rules)
+    took _ c.next_outbound_frame-r.result c.next_outbound_frame-r.ensures.buffer_after c.put_taken.ensures (search rules) (search rules) (search rules)

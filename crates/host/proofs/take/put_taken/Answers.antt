@@ -6,7 +6,7 @@ use Rattle.host.proofs.Framing.{none_stands}
 use Rattle.host.proofs.take.put_taken.Goals as goal
 
 pub returns-in-Refused : goal.returns-in-Refused
-returns-in-Refused c =
+returns-in-Refused c first w =
     let a = c.args in
     let e : taken a.answer a.frame.payload_len (a.end - a.start) ≡ 0 =
     ap (λ (o : Outcome). taken o a.frame.payload_len (a.end - a.start)) c.in-Refused.is in
