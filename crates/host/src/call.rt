@@ -1,4 +1,5 @@
-// One operation through the public methods, with the state by value.
+// One operation through the public methods, with the state by value. No call is inlined into another: the frames of all of
+// them together would need more stack than a main thread has.
 ghost use Rattle.std.specs.Prelude.{◌≤◌, length};
 ghost use Rattle.script.specs.Output.{Wrote};
 
@@ -25,6 +26,7 @@ pub struct Called {
     pub to: usize,
 }
 
+#[inline(never)]
 fn call_send(
     s: ProducerState,
     script: &[u8],
@@ -54,6 +56,7 @@ fn call_send(
     }
 }
 
+#[inline(never)]
 fn call_flush(
     s: ProducerState,
     script: &[u8],
@@ -93,6 +96,7 @@ fn put_receipt(
     }
 }
 
+#[inline(never)]
 fn call_receipt(
     s: ProducerState,
     script: &[u8],
@@ -128,6 +132,7 @@ fn put_error(out: &mut [u8], to: usize, code: u8, answer: Outcome, error: i32, o
     }
 }
 
+#[inline(never)]
 fn call_error(
     s: ProducerState,
     script: &[u8],
@@ -149,6 +154,7 @@ fn call_error(
     }
 }
 
+#[inline(never)]
 fn call_ids(
     s: ProducerState,
     script: &[u8],
@@ -166,6 +172,7 @@ fn call_ids(
     }
 }
 
+#[inline(never)]
 fn call_name(
     s: ProducerState,
     script: &[u8],
@@ -185,6 +192,7 @@ fn call_name(
     }
 }
 
+#[inline(never)]
 fn call_set(
     s: ProducerState,
     script: &[u8],
@@ -205,6 +213,7 @@ fn call_set(
     }
 }
 
+#[inline(never)]
 fn call_close(s: ProducerState, code: u8, out: &mut [u8], to: usize) -> Called
     ensures { Wrote to out.old out.new result.to }
 {
@@ -215,6 +224,7 @@ fn call_close(s: ProducerState, code: u8, out: &mut [u8], to: usize) -> Called
     }
 }
 
+#[inline(never)]
 fn call_resend(s: ProducerState, code: u8, out: &mut [u8], to: usize) -> Called
     ensures { Wrote to out.old out.new result.to }
 {
@@ -234,6 +244,7 @@ pub(crate) fn put_len(out: &mut [u8], to: usize, code: u8, n: usize) -> usize
     put_usize(out, status, n)
 }
 
+#[inline(never)]
 fn call_query(
     s: ProducerState,
     script: &[u8],

@@ -62,6 +62,7 @@ fn slot(n: usize, head: usize, i: usize) -> usize
     (head % n + i % n) % n
 }
 
+#[inline(never)]
 pub(crate) fn run_in_place(script: &[u8], store_len: usize, handle: u64, out: &mut [u8]) -> usize
     ensures { Wrote 0 out.old out.new result }
 {

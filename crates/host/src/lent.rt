@@ -110,6 +110,7 @@ fn put_drained(
     }
 }
 
+#[inline(never)]
 fn call_drain(
     s: ProducerState,
     last: Entries,
@@ -214,6 +215,7 @@ fn kept_table(answer: Outcome, replay: Entries, last: Entries) -> Entries {
     }
 }
 
+#[inline(never)]
 fn call_snapshot(
     s: ProducerState,
     last: Entries,
@@ -276,6 +278,7 @@ fn replay(s: ProducerState, table: [OpSend; 257], n: usize) -> ReplayAnswer
     s.replay_snapshots(&table[..n])
 }
 
+#[inline(never)]
 fn call_replay(
     s: ProducerState,
     last: Entries,
@@ -310,6 +313,7 @@ pub(crate) fn is_lent(code: u8) -> bool {
     }
 }
 
+#[inline(never)]
 pub(crate) fn call_lent(
     s: ProducerState,
     last: Entries,

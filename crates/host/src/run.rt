@@ -69,6 +69,7 @@ pub(crate) fn next_step(script: &[u8], at: usize, out: &mut [u8], to: usize) -> 
     }
 }
 
+#[inline(never)]
 fn run_by_value(script: &[u8], store_len: usize, handle: u64, out: &mut [u8]) -> usize
     ensures { Wrote 0 out.old out.new result }
 {

@@ -72,6 +72,7 @@ pub(crate) fn put_taken(
     }
 }
 
+#[inline(never)]
 pub(crate) fn call_take(
     s: ProducerState,
     script: &[u8],
