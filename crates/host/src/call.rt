@@ -49,9 +49,8 @@ fn call_send(
         s.queue_send(lent, message, uuid, a.publish_time, a.now)
     };
     let answer = r.answer;
-    let state = r.state;
     Called {
-        state: state,
+        state: r.state,
         to: put_decision(out, to, code, answer),
     }
 }
@@ -69,9 +68,8 @@ fn call_flush(
 {
     let r = s.flush_batch(u64_at(script, behind(at, 1)), u64_at(script, behind(at, 9)));
     let answer = r.answer;
-    let state = r.state;
     Called {
-        state: state,
+        state: r.state,
         to: put_count(out, to, code, answer),
     }
 }
@@ -112,9 +110,8 @@ fn call_receipt(
     let answer = r.answer;
     let op = r.op;
     let id = r.message_id;
-    let state = r.state;
     Called {
-        state: state,
+        state: r.state,
         to: put_receipt(out, to, code, answer, id, op),
     }
 }
@@ -147,9 +144,8 @@ fn call_error(
     let r = s.apply_send_error(err);
     let answer = r.answer;
     let op = r.op;
-    let state = r.state;
     Called {
-        state: state,
+        state: r.state,
         to: put_error(out, to, code, answer, r.error, op),
     }
 }
@@ -185,9 +181,8 @@ fn call_name(
 {
     let r = s.set_name(name_bytes_at(script, at));
     let answer = r.answer;
-    let state = r.state;
     Called {
-        state: state,
+        state: r.state,
         to: put_outcome(out, to, code, answer),
     }
 }
@@ -206,9 +201,8 @@ fn call_set(
     let setting = setting_at(script, at, code);
     let r = s.set(setting);
     let answer = r.answer;
-    let state = r.state;
     Called {
-        state: state,
+        state: r.state,
         to: put_outcome(out, to, code, answer),
     }
 }
@@ -230,9 +224,8 @@ fn call_resend(s: ProducerState, code: u8, out: &mut [u8], to: usize) -> Called
 {
     let r = s.replay_pending_outbound();
     let answer = r.answer;
-    let state = r.state;
     Called {
-        state: state,
+        state: r.state,
         to: put_count(out, to, code, answer),
     }
 }

@@ -229,18 +229,15 @@ pub(crate) fn run_in_place(script: &[u8], store_len: usize, handle: u64, out: &m
             Drive::Lent => {
                 s.core = c;
                 let r = call_lent(s, last, script, at, code, out, to);
-                let state = r.state;
-                let kept = r.last;
-                s = state;
+                s = r.state;
                 c = s.core;
-                last = kept;
+                last = r.last;
                 to = r.to;
             }
             Drive::ByValue => {
                 s.core = c;
                 let r = call(s, script, at, code, store, out, to);
-                let state = r.state;
-                s = state;
+                s = r.state;
                 c = s.core;
                 to = r.to;
             }

@@ -4,9 +4,6 @@ ghost use Rattle.std.specs.Prelude.{◌≤◌};
 ghost use Rattle.script.specs.Output.{Wrote};
 
 use plans::delta::no_entry;
-use producer::drain::SnapshotAnswer;
-use producer::replay::ReplayAnswer;
-use producer::send::CountAnswer;
 use producer::state::ProducerState;
 use rules::numbers::at_most;
 use script::answer::{put_entries, put_outcome, put_refusal, put_status};
@@ -60,37 +57,6 @@ pub(crate) struct Lent {
 
 // ---- drains ----
 
-#[derive(Clone, Copy)]
-struct Drained {
-    answer: CountOutcome,
-    table: [OpSend; 257],
-    state: ProducerState,
-}
-
-fn with_table(r: CountAnswer, table: [OpSend; 257]) -> Drained {
-    let answer = r.answer;
-    let state = r.state;
-    Drained {
-        answer: answer,
-        table: table,
-        state: state,
-    }
-}
-
-fn drain_all(s: ProducerState, mut table: [OpSend; 257], n: usize) -> Drained
-    requires { n ≤ 256 }
-{
-    let r = s.drain_pending_sends(&mut table[..n]);
-    with_table(r, table)
-}
-
-fn drain_due(s: ProducerState, time: u64, mut table: [OpSend; 257], n: usize) -> Drained
-    requires { n ≤ 256 }
-{
-    let r = s.drain_timed_out_sends(time, &mut table[..n]);
-    with_table(r, table)
-}
-
 fn put_drained(
     out: &mut [u8],
     to: usize,
@@ -122,66 +88,22 @@ fn call_drain(
 ) -> Lent
     ensures { Wrote to out.old out.new result.to }
 {
-    let places = blank_table();
-    let d = if code == 0x07 {
-        drain_due(
-            s,
-            u64_at(script, behind(at, 1)),
-            places,
-            room_at(script, behind(at, 9)),
-        )
+    let mut table = blank_table();
+    let r = if code == 0x07 {
+        let n = room_at(script, behind(at, 9));
+        s.drain_timed_out_sends(u64_at(script, behind(at, 1)), &mut table[..n])
     } else {
-        drain_all(s, places, room_at(script, behind(at, 1)))
+        let n = room_at(script, behind(at, 1));
+        s.drain_pending_sends(&mut table[..n])
     };
-    let answer = d.answer;
-    let table = d.table;
-    let state = d.state;
     Lent {
-        state: state,
+        state: r.state,
         last: last,
-        to: put_drained(out, to, code, answer, table),
+        to: put_drained(out, to, code, r.answer, table),
     }
 }
 
 // ---- the snapshot ----
-
-#[derive(Clone, Copy)]
-struct Snapped {
-    answer: Outcome,
-    dropped: Entries,
-    replay: Entries,
-    state: ProducerState,
-}
-
-fn with_tables(r: SnapshotAnswer, dropped: [OpSend; 257], replay: [OpSend; 257]) -> Snapped {
-    let answer = r.answer;
-    let state = r.state;
-    Snapped {
-        answer: answer,
-        dropped: Entries {
-            table: dropped,
-            len: r.dropped,
-        },
-        replay: Entries {
-            table: replay,
-            len: r.replay,
-        },
-        state: state,
-    }
-}
-
-fn snapshot(
-    s: ProducerState,
-    mut dropped: [OpSend; 257],
-    n: usize,
-    mut replay: [OpSend; 257],
-    m: usize,
-) -> Snapped
-    requires { (n ≤ 256) × (m ≤ 256) }
-{
-    let r = s.snapshot_pending_sends(&mut dropped[..n], &mut replay[..m]);
-    with_tables(r, dropped, replay)
-}
 
 fn put_snapped(
     out: &mut [u8],
@@ -227,19 +149,23 @@ fn call_snapshot(
 ) -> Lent
     ensures { Wrote to out.old out.new result.to }
 {
-    let places = blank_table();
+    let mut dropped = blank_table();
+    let mut replay = blank_table();
     let n = room_at(script, behind(at, 1));
     let m = room_at(script, behind(at, 5));
-    let r = snapshot(s, places, n, places, m);
-    let answer = r.answer;
-    let dropped = r.dropped;
-    let replay = r.replay;
-    let state = r.state;
-    let kept = kept_table(answer, replay, last);
+    let r = s.snapshot_pending_sends(&mut dropped[..n], &mut replay[..m]);
+    let gone = Entries {
+        table: dropped,
+        len: r.dropped,
+    };
+    let kept = Entries {
+        table: replay,
+        len: r.replay,
+    };
     Lent {
-        state: state,
-        last: kept,
-        to: put_snapped(out, to, code, answer, dropped, replay),
+        state: r.state,
+        last: kept_table(r.answer, kept, last),
+        to: put_snapped(out, to, code, r.answer, gone, kept),
     }
 }
 
@@ -272,12 +198,6 @@ fn entries_again(script: &[u8], at: usize, last: Entries) -> Entries {
     }
 }
 
-fn replay(s: ProducerState, table: [OpSend; 257], n: usize) -> ReplayAnswer
-    requires { n ≤ 257 }
-{
-    s.replay_snapshots(&table[..n])
-}
-
 #[inline(never)]
 fn call_replay(
     s: ProducerState,
@@ -295,14 +215,12 @@ fn call_replay(
     } else {
         entries_again(script, at, last)
     };
-    let table = e.table;
-    let r = replay(s, table, at_most(e.len, 257));
-    let answer = r.answer;
-    let state = r.state;
+    let n = at_most(e.len, 257);
+    let r = s.replay_snapshots(&e.table[..n]);
     Lent {
-        state: state,
+        state: r.state,
         last: last,
-        to: put_outcome(out, to, code, answer),
+        to: put_outcome(out, to, code, r.answer),
     }
 }
 

@@ -90,9 +90,8 @@ pub(crate) fn call_take(
     let r = s.next_outbound_frame(lent, &mut out[start..end]);
     let answer = r.answer;
     let frame = r.frame;
-    let state = r.state;
     Called {
-        state: state,
+        state: r.state,
         to: put_taken(out, to, start, end, lent, answer, frame),
     }
 }
