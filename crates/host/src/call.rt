@@ -28,7 +28,7 @@ pub struct Called {
 
 #[inline(never)]
 fn call_send(
-    s: ProducerState,
+    s: &ProducerState,
     script: &[u8],
     at: usize,
     code: u8,
@@ -57,7 +57,7 @@ fn call_send(
 
 #[inline(never)]
 fn call_flush(
-    s: ProducerState,
+    s: &ProducerState,
     script: &[u8],
     at: usize,
     code: u8,
@@ -96,7 +96,7 @@ fn put_receipt(
 
 #[inline(never)]
 fn call_receipt(
-    s: ProducerState,
+    s: &ProducerState,
     script: &[u8],
     at: usize,
     code: u8,
@@ -131,7 +131,7 @@ fn put_error(out: &mut [u8], to: usize, code: u8, answer: Outcome, error: i32, o
 
 #[inline(never)]
 fn call_error(
-    s: ProducerState,
+    s: &ProducerState,
     script: &[u8],
     at: usize,
     code: u8,
@@ -152,7 +152,7 @@ fn call_error(
 
 #[inline(never)]
 fn call_ids(
-    s: ProducerState,
+    s: &ProducerState,
     script: &[u8],
     at: usize,
     code: u8,
@@ -170,7 +170,7 @@ fn call_ids(
 
 #[inline(never)]
 fn call_name(
-    s: ProducerState,
+    s: &ProducerState,
     script: &[u8],
     at: usize,
     code: u8,
@@ -189,7 +189,7 @@ fn call_name(
 
 #[inline(never)]
 fn call_set(
-    s: ProducerState,
+    s: &ProducerState,
     script: &[u8],
     at: usize,
     code: u8,
@@ -208,7 +208,7 @@ fn call_set(
 }
 
 #[inline(never)]
-fn call_close(s: ProducerState, code: u8, out: &mut [u8], to: usize) -> Called
+fn call_close(s: &ProducerState, code: u8, out: &mut [u8], to: usize) -> Called
     ensures { Wrote to out.old out.new result.to }
 {
     let state = s.close();
@@ -219,7 +219,7 @@ fn call_close(s: ProducerState, code: u8, out: &mut [u8], to: usize) -> Called
 }
 
 #[inline(never)]
-fn call_resend(s: ProducerState, code: u8, out: &mut [u8], to: usize) -> Called
+fn call_resend(s: &ProducerState, code: u8, out: &mut [u8], to: usize) -> Called
     ensures { Wrote to out.old out.new result.to }
 {
     let r = s.replay_pending_outbound();
@@ -239,7 +239,7 @@ pub(crate) fn put_len(out: &mut [u8], to: usize, code: u8, n: usize) -> usize
 
 #[inline(never)]
 fn call_query(
-    s: ProducerState,
+    s: &ProducerState,
     script: &[u8],
     at: usize,
     code: u8,
@@ -268,12 +268,12 @@ fn call_query(
         ),
         0x24 => put_len(out, to, code, s.outbound_len()),
         0x25 => put_stats(out, to, code, s.stats()),
-        _ => put_dump(s, out, to),
+        _ => put_dump(*s, out, to),
     }
 }
 
 pub(crate) fn call(
-    s: ProducerState,
+    s: &ProducerState,
     script: &[u8],
     at: usize,
     code: u8,
@@ -296,7 +296,7 @@ pub(crate) fn call(
         0x11..=0x18 => call_set(s, script, at, code, out, to),
         0x19 => call_close(s, code, out, to),
         _ => Called {
-            state: s,
+            state: *s,
             to: call_query(s, script, at, code, out, to),
         },
     }

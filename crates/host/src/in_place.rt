@@ -228,7 +228,7 @@ pub(crate) fn run_in_place(script: &[u8], store_len: usize, handle: u64, out: &m
             }
             Drive::Lent => {
                 s.core = c;
-                let r = call_lent(s, last, script, at, code, out, to);
+                let r = call_lent(&s, last, script, at, code, out, to);
                 s = r.state;
                 c = s.core;
                 last = r.last;
@@ -236,7 +236,7 @@ pub(crate) fn run_in_place(script: &[u8], store_len: usize, handle: u64, out: &m
             }
             Drive::ByValue => {
                 s.core = c;
-                let r = call(s, script, at, code, store, out, to);
+                let r = call(&s, script, at, code, store, out, to);
                 s = r.state;
                 c = s.core;
                 to = r.to;

@@ -78,7 +78,7 @@ fn put_drained(
 
 #[inline(never)]
 fn call_drain(
-    s: ProducerState,
+    s: &ProducerState,
     last: Entries,
     script: &[u8],
     at: usize,
@@ -139,7 +139,7 @@ fn kept_table(answer: Outcome, replay: Entries, last: Entries) -> Entries {
 
 #[inline(never)]
 fn call_snapshot(
-    s: ProducerState,
+    s: &ProducerState,
     last: Entries,
     script: &[u8],
     at: usize,
@@ -200,7 +200,7 @@ fn entries_again(script: &[u8], at: usize, last: Entries) -> Entries {
 
 #[inline(never)]
 fn call_replay(
-    s: ProducerState,
+    s: &ProducerState,
     last: Entries,
     script: &[u8],
     at: usize,
@@ -233,7 +233,7 @@ pub(crate) fn is_lent(code: u8) -> bool {
 
 #[inline(never)]
 pub(crate) fn call_lent(
-    s: ProducerState,
+    s: &ProducerState,
     last: Entries,
     script: &[u8],
     at: usize,

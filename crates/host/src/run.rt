@@ -86,12 +86,12 @@ fn run_by_value(script: &[u8], store_len: usize, handle: u64, out: &mut [u8]) ->
         }
         let code = step.code;
         if is_lent(code) {
-            let r = call_lent(s, last, script, at, code, out, to);
+            let r = call_lent(&s, last, script, at, code, out, to);
             s = r.state;
             last = r.last;
             to = r.to;
         } else {
-            let r = call(s, script, at, code, store, out, to);
+            let r = call(&s, script, at, code, store, out, to);
             s = r.state;
             to = r.to;
         }

@@ -74,7 +74,7 @@ pub(crate) fn put_taken(
 
 #[inline(never)]
 pub(crate) fn call_take(
-    s: ProducerState,
+    s: &ProducerState,
     script: &[u8],
     at: usize,
     store: &[u8],

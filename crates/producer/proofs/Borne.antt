@@ -14,7 +14,7 @@ use Rattle.producer.specs.Replay.{frame_id}
 use Rattle.producer.specs.View.{view}
 use Rattle.producer.specs.declared.state.ProducerState.{ProducerState}
 use Rattle.producer.proofs.Full.{Full}
-use Rattle.producer.proofs.Listed.{take_copied}
+use Rattle.producer.proofs.Listed.{take_copied, few_ring}
 
 -- the definition's test, by ids
 borne_ids : (id : ℕ) (rs : List FrameRecord) → borne_by id (map frame_id rs) ≡ borne id rs
@@ -43,6 +43,17 @@ pub record Naming (s : ProducerState) (ids : List ℕ) (i : ℕ) : Type 0 where
   pub len : length ids ≡ 1024
   pub low : i ≤ min s.core.rings.outbound_len 1024
   pub same : take i ids ≡ take i (map frame_id (view s).out.frames)
+
+-- all are named
+pub naming_all : (s : ProducerState) (ids : List ℕ) (i : ℕ) → Naming s ids i → min s.core.rings.outbound_len 1024 ≤ i
+    → take (min s.core.rings.outbound_len 1024) ids ≡ map frame_id (view s).out.frames
+unfolding view
+naming_all s ids i l b =
+    let few : length (view s).out.frames ≤ min s.core.rings.outbound_len 1024 =
+    few_ring 1024 s.outbound s.core.rings.outbound_head s.core.rings.outbound_len in
+    let named : length (map frame_id (view s).out.frames) ≡ length (view s).out.frames = length-map (view s).out.frames frame_id in
+    let k : min s.core.rings.outbound_len 1024 ≡ i = omega (arith, l.low) in
+    ap (λ (j : ℕ). take j ids) k ∙ l.same ∙ take_all i (map frame_id (view s).out.frames) (omega arith)
 
 module _ (s : ProducerState) (f : Full s) (ids : List ℕ) where
   length_names : length (map frame_id (view s).out.frames) ≡ min s.core.rings.outbound_len 1024

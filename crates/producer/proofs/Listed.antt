@@ -1,9 +1,9 @@
 -- The loop that lists the pending entries: those up to i stand in the array. Assumes nothing.
-use Rattle.std.proofs.Common.{◌≡◌, ℕ, ◌+◌, ◌<◌, ◌≤◌, min, List, [], ◌∷◌, ◌++◌, length, get_or, take, set, sym, refl, ap, ◌∙◌, zero-le, add-one, arith, length-set, take_all, take-suc, take-suc-set}
-use Rattle.laws.specs.Ring.{slot}
+use Rattle.std.proofs.Common.{◌≡◌, ℕ, ◌+◌, ◌<◌, ◌≤◌, min, List, [], ◌∷◌, ◌++◌, length, get_or, take, drop, set, sym, refl, ap, ◌∙◌, ◌%◌, zero-le, add-one, arith, length-set, length-take, take_all, take-suc, take-suc-set}
+use Rattle.laws.specs.Ring.{ring, slot}
 use Rattle.types.specs.declared.entry.OpSend.{OpSend}
 use Rattle.types.specs.declared.entry.Publish.{Publish}
-use Rattle.producer.specs.View.{view, entry_of}
+use Rattle.producer.specs.View.{view, entry_of, slots_of}
 use Rattle.producer.specs.declared.state.ProducerState.{ProducerState}
 use Rattle.producer.proofs.Full.{Full}
 use Rattle.producer.proofs.Locate.{entry_there, length_view}
@@ -22,6 +22,21 @@ pub record Listing (s : ProducerState) (all : List OpSend) (i : ℕ) : Type 0 wh
   pub len : length all ≡ 256
   pub low : i ≤ min s.core.rings.pending_len 256
   pub same : take i all ≡ take i (view s).pending
+
+-- a ring's list is at most as long as its count says, whatever its array
+pub few_ring : {A : Type 0} (cap : ℕ) (l : List A) (h n : ℕ) → length (ring cap l h n) ≤ min n cap
+unfolding ring
+few_ring cap l h n = omega (arith, length-take (min n cap) (drop (h % cap) (l ++ l)))
+
+-- all are listed
+pub listing_all : (s : ProducerState) (all : List OpSend) (i : ℕ) → Listing s all i → min s.core.rings.pending_len 256 ≤ i
+    → take (min s.core.rings.pending_len 256) all ≡ (view s).pending
+unfolding view
+listing_all s all i l b =
+    let few : length (view s).pending ≤ min s.core.rings.pending_len 256 =
+    few_ring 256 (slots_of s) s.core.rings.pending_head s.core.rings.pending_len in
+    let k : min s.core.rings.pending_len 256 ≡ i = omega (arith, l.low) in
+    ap (λ (j : ℕ). take j all) k ∙ l.same ∙ take_all i (view s).pending (omega arith)
 
 module _ (s : ProducerState) (f : Full s) (all : List OpSend) where
   pub listing_start : length all ≡ 256 → Listing s all 0

@@ -33,8 +33,8 @@ pub struct SnapshotAnswer {
 
 impl ProducerState {
     // How many entries a drain hands out to a table of so much room: those that are due at a time, or all.
-    fn plan_drain(self, due: MaybeU64, entries: [OpSend; 256], room: usize) -> Handout
-        ensures { result ≡ plan_of due entries room self }
+    fn plan_drain(&self, due: MaybeU64, entries: [OpSend; 256], room: usize) -> Handout
+        ensures { result ≡ plan_of due entries room self.now }
     {
         let n = at_most(self.core.rings.pending_len, 256);
         let c = self.core;
@@ -99,24 +99,24 @@ impl ProducerState {
     }
 
     // The batched entries, or the others.
-    fn of_kind(self, batched: bool) -> Picks
-        ensures { PickedFrom batched (view self).pending result }
+    fn of_kind(&self, batched: bool) -> Picks
+        ensures { PickedFrom batched (view self.now).pending result }
     {
         let entries = self.entries();
         let n = at_most(self.core.rings.pending_len, 256);
         picked(entries, n, batched)
     }
 
-    fn entries_of_kind(self, batched: bool) -> [OpSend; 256]
-        ensures { take (length (kind_of batched (view self).pending)) result ≡ kind_of batched (view self).pending }
+    fn entries_of_kind(&self, batched: bool) -> [OpSend; 256]
+        ensures { take (length (kind_of batched (view self.now).pending)) result ≡ kind_of batched (view self.now).pending }
     {
         let picks = self.of_kind(batched);
         picks.entries
     }
 
     // How much a snapshot writes to tables of so much room.
-    fn plan_snapshot(self, dropped_room: usize, replay_room: usize) -> Snapshot
-        ensures { result ≡ snapshot_of (length (batched_of (view self).pending)) (length (framed_of (view self).pending)) dropped_room replay_room }
+    fn plan_snapshot(&self, dropped_room: usize, replay_room: usize) -> Snapshot
+        ensures { result ≡ snapshot_of (length (batched_of (view self.now).pending)) (length (framed_of (view self.now).pending)) dropped_room replay_room }
     {
         let dropped = self.of_kind(true);
         let replay = self.of_kind(false);

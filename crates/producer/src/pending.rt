@@ -9,8 +9,8 @@ use types::entry::OpSend;
 
 impl ProducerState {
     // The oldest first. What stands behind the last means nothing.
-    pub(crate) fn entries(self) -> [OpSend; 256]
-        ensures { take (min self.core.rings.pending_len 256) result ≡ (view self).pending }
+    pub(crate) fn entries(&self) -> [OpSend; 256]
+        ensures { take (min self.now.core.rings.pending_len 256) result ≡ (view self.now).pending }
     {
         let head = self.core.rings.pending_head % 256;
         let n = at_most(self.core.rings.pending_len, 256);

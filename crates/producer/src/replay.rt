@@ -11,8 +11,8 @@ use crate::send::CountAnswer;
 use crate::state::ProducerState;
 use rules::numbers::at_most;
 use tables::entries::{again, frames_of, is_batched};
-use tables::pushes::frames_for;
 use tables::load::{all_well_formed, load};
+use tables::pushes::frames_for;
 use tables::unborne::unborne;
 use types::answer::{CountOutcome, Outcome};
 use types::entry::OpSend;
@@ -83,8 +83,8 @@ impl ProducerState {
     }
 
     // The ids of the waiting frames.
-    fn waiting_ids(self) -> [u64; 1024]
-        ensures { take (min self.core.rings.outbound_len 1024) result ≡ map frame_id (view self).out.frames }
+    fn waiting_ids(&self) -> [u64; 1024]
+        ensures { take (min self.now.core.rings.outbound_len 1024) result ≡ map frame_id (view self.now).out.frames }
     {
         let head = self.core.rings.outbound_head % 1024;
         let n = at_most(self.core.rings.outbound_len, 1024);

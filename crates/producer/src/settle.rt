@@ -102,9 +102,9 @@ impl ProducerState {
         locate(&self.pending_ids, &self.pending_marks, head, len, id)
     }
 
-    pub(crate) fn op_at(self, place: usize) -> OpSend
+    pub(crate) fn op_at(&self, place: usize) -> OpSend
         requires { place < 256 }
-        ensures { slice_index_or (view self).pending place result ≡ result }
+        ensures { slice_index_or (view self.now).pending place result ≡ result }
     {
         let at = (self.core.rings.pending_head % 256 + place) % 256;
         let publish = self.pending[at];

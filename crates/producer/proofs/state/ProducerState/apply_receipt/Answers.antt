@@ -9,11 +9,11 @@ pub returns : goal.returns
 returns c =
     let both =
     let a = c.args in
-        let t = c.settle-settled.result in
-        let id = a.receipt.sequence_id.0 in
-        let m = a.receipt.message_id in
-        let given = c.of_receipt-message_id in
-        subst (λ (k : Core). Received id m a.self t k given.result) (sym c.published-core.ensures)
-        (subst (Received id m a.self t (core_published t.answer id t.state.core)) (sym given.ensures)
-        (received id m a.self t c.settle-settled.ensures)) in
+    let t = c.settle-settled.result in
+    let id = a.receipt.sequence_id.0 in
+    let m = a.receipt.message_id in
+    let given = c.of_receipt-message_id in
+    subst (λ (k : Core). Received id m a.self t k given.result) (sym c.published-core.ensures)
+    (subst (Received id m a.self t (core_published t.answer id t.state.core)) (sym given.ensures)
+    (received id m a.self t c.settle-settled.ensures)) in
     record { result_value = both.0; kept = both.1 }

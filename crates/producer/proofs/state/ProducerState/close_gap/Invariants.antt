@@ -1,4 +1,3 @@
-
 use Rattle.producer.proofs.Full.{full}
 use Rattle.producer.proofs.Gap.{Moving, moving_start, moving_step, moving_end}
 use Rattle.std.proofs.Common.{◌-◌, arith, rules}

@@ -30,9 +30,9 @@ pub returns : goal.returns
 returns c =
     let both =
     let a = c.args in
-        let s = a.self in
-        let g = given a.message a.reservation a.uuid a.publish_time a.time in
-        let o = queue_send (length a.store.now) (brought g) (view s) in
-        subst (λ (r : ProducerState). Sent s g c.plan_send-d.result r o) (sym c.apply-s.ensures)
-        (subst (λ (d : SendDelta). Sends s (full s c.well_formed.0) g d o) (sym c.plan_send-d.ensures) (plan_sends s (full s c.well_formed.0) g (length a.store.now))) in
+    let s = a.self in
+    let g = given a.message a.reservation a.uuid a.publish_time a.time in
+    let o = queue_send (length a.store.now) (brought g) (view s) in
+    subst (λ (r : ProducerState). Sent s g c.plan_send-d.result r o) (sym c.apply-s.ensures)
+    (subst (λ (d : SendDelta). Sends s (full s c.well_formed.0) g d o) (sym c.plan_send-d.ensures) (plan_sends s (full s c.well_formed.0) g (length a.store.now))) in
     record { answer_value = both.0; kept_send = both.1 }

@@ -9,32 +9,32 @@ pub returns-in-Count : goal.returns-in-Count
 returns-in-Count c =
     let both =
     let s = c.args.self in
-        let u = c.unborne-left in
-        let ops = c.entries-ops in
-        let ids = c.waiting_ids-ids in
-        let n = c.at_most-n in
-        let m = c.at_most-m in
-        let l : List OpSend = take u.result.len u.result.entries in
-        let e =
-        found s ids.result ops.result l m.result n.result (ap (λ (k : ℕ). take k ids.result) m.ensures ∙ ids.ensures)
-        (ap (λ (k : ℕ). take k ops.result) n.ensures ∙ ops.ensures) u.ensures.0 in
-        let p = c.replay_count-answer.ensures ∙ ap (λ (k : ℕ). replay_count k s.core) c.frames_for.ensures in
-        counts s c.front_frames-s.result l c.replay_count-answer.result e p _ c.in-Count.is c.front_frames-s.ensures in
+    let u = c.unborne-left in
+    let ops = c.entries-ops in
+    let ids = c.waiting_ids-ids in
+    let n = c.at_most-n in
+    let m = c.at_most-m in
+    let l : List OpSend = take u.result.len u.result.entries in
+    let e =
+    found s ids.result ops.result l m.result n.result (ap (λ (k : ℕ). take k ids.result) m.ensures ∙ ids.ensures)
+    (ap (λ (k : ℕ). take k ops.result) n.ensures ∙ ops.ensures) u.ensures.0 in
+    let p = c.replay_count-answer.ensures ∙ ap (λ (k : ℕ). replay_count k s.core) c.frames_for.ensures in
+    counts s c.front_frames-s.result l c.replay_count-answer.result e p _ c.in-Count.is c.front_frames-s.ensures in
     record { answer_value = both.0; kept = both.1 }
 
 pub returns-in-Refused : goal.returns-in-Refused
 returns-in-Refused c =
     let both =
     let s = c.args.self in
-        let u = c.unborne-left in
-        let ops = c.entries-ops in
-        let ids = c.waiting_ids-ids in
-        let n = c.at_most-n in
-        let m = c.at_most-m in
-        let l : List OpSend = take u.result.len u.result.entries in
-        let e =
-        found s ids.result ops.result l m.result n.result (ap (λ (k : ℕ). take k ids.result) m.ensures ∙ ids.ensures)
-        (ap (λ (k : ℕ). take k ops.result) n.ensures ∙ ops.ensures) u.ensures.0 in
-        let p = c.replay_count-answer.ensures ∙ ap (λ (k : ℕ). replay_count k s.core) c.frames_for.ensures in
-        counts_not s l c.replay_count-answer.result e p _ c.in-Refused.is in
+    let u = c.unborne-left in
+    let ops = c.entries-ops in
+    let ids = c.waiting_ids-ids in
+    let n = c.at_most-n in
+    let m = c.at_most-m in
+    let l : List OpSend = take u.result.len u.result.entries in
+    let e =
+    found s ids.result ops.result l m.result n.result (ap (λ (k : ℕ). take k ids.result) m.ensures ∙ ids.ensures)
+    (ap (λ (k : ℕ). take k ops.result) n.ensures ∙ ops.ensures) u.ensures.0 in
+    let p = c.replay_count-answer.ensures ∙ ap (λ (k : ℕ). replay_count k s.core) c.frames_for.ensures in
+    counts_not s l c.replay_count-answer.result e p _ c.in-Refused.is in
     record { answer_value = both.0; kept = both.1 }

@@ -10,5 +10,5 @@ pub returns : goal.returns
 returns c =
     let both =
     let a = c.args in
-        subst (λ (p : SetPlan). Sets a.self p (set a.s (view a.self))) (sym c.set-p.ensures) (sets a.self a.s) in
+    subst (λ (p : SetPlan). Sets a.self p (set a.s (view a.self))) (sym c.set-p.ensures) (sets a.self a.s) in
     record { answer_value = both.0; kept = both.1 }

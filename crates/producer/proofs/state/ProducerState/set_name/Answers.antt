@@ -10,5 +10,5 @@ pub returns : goal.returns
 returns c =
     let both =
     let a = c.args in
-        subst (λ (p : SetPlan). Sets a.self p (set_name a.name.now (view a.self))) (sym c.set_name-p.ensures) (names a.self a.name.now) in
+    subst (λ (p : SetPlan). Sets a.self p (set_name a.name.now (view a.self))) (sym c.set_name-p.ensures) (names a.self a.name.now) in
     record { answer_value = both.0; kept = both.1 }
