@@ -1,8 +1,7 @@
 -- What the plans of the replays answer. These mirror the code.
-use Rattle.std.specs.Prelude.{ℕ, ◌+◌, ◌-◌, min, Bool, true, not, ◌&&◌, nat_lt}
+use Rattle.std.specs.Prelude.{ℕ, ◌+◌, min, Bool, true, not, nat_lt}
 use Rattle.laws.specs.Choice.{pick}
 use Rattle.laws.specs.Numbers.{add_sat}
-use Rattle.laws.specs.Ring.{slot}
 use Rattle.types.specs.declared.answer.CountOutcome.{CountOutcome}
 use Rattle.types.specs.declared.answer.CountOutcome.TheVariants as count
 use Rattle.types.specs.declared.answer.Outcome.{Outcome}
@@ -11,7 +10,6 @@ use Rattle.types.specs.declared.entry.OpSend.{OpSend}
 use Rattle.types.specs.declared.error.ProducerError.TheVariants.{OutboundFull, PendingFull, MalformedEntry}
 use Rattle.types.specs.declared.frame.FrameRecord.{FrameRecord}
 use Rattle.plans.specs.declared.state.Core.{Core}
-use Rattle.rules.specs.declared.rings.Rings.{Rings}
 use Rattle.rules.specs.Rings.{place_before}
 use Rattle.plans.specs.declared.delta.Accepted.{Accepted}
 use Rattle.plans.specs.declared.delta.Pushed.{Pushed}

@@ -14,7 +14,6 @@ use Rattle.types.specs.declared.frame.FrameRecord.{FrameRecord}
 use Rattle.queue.specs.Queue.{Queue, Outgoing}
 use Rattle.queue.specs.Batch.{at_least_one, single_of, grown, with_batch, batch_record, flushed}
 use Rattle.queue.specs.Send.{Sending, total_chunks, within_bounds, one, entry, record_of, add_to_batch, emit_single, emit_chunked, flush_if}
-use Rattle.queue.specs.Run.{flush}
 use Rattle.queue.proofs.ItemBounds.{Sendable}
 use Rattle.queue.proofs.Sound.{Sound, appended, push_room, append_sound, flush_sound, joined_to, join_sound}
 use Rattle.queue.proofs.Entries.{Entries, one_more, some_chunk}

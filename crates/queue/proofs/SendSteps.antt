@@ -21,7 +21,7 @@ use Rattle.queue.specs.Batch.{batchable, can_add_to_batch, may_join, is_empty, i
 use Rattle.queue.specs.Send.{Sending, large, chunk_size, total_chunks, other_txn, in_the_way, flushes_before, left_of, way_into, message_in, one, go, add_to_batch, emit_single, emit_chunked, flush_if, follow, carried_out, queue_send}
 use Rattle.queue.specs.Frame.{Frame, single_frame, single_in}
 use Rattle.queue.specs.Message.{Message, message_of}
-use Rattle.queue.specs.Run.{Call, send, flush, Ranged, Gives, frame_of, accepted_by}
+use Rattle.queue.specs.Run.{Call, send, Ranged, Gives, frame_of, accepted_by}
 use Rattle.queue.specs.Order.{Covered}
 use Rattle.queue.specs.Chunks.{Unchunked, Cuts, none_cut, one_cut}
 use Rattle.laws.proofs.Choice.{pick_ind, false_true, and_left, and_right, or_left, or_right}

@@ -1,5 +1,5 @@
 -- Document 01, 'batch': joining, the frame of a batch, and the flush.
-use Rattle.std.specs.Prelude.{ℕ, zero, suc, ◌+◌, max, Bool, true, false, not, ◌&&◌, ◌||◌, List, [], ◌∷◌, ◌++◌, replicate, leb, ltb, eqb, ℤ, pos, negsuc}
+use Rattle.std.specs.Prelude.{ℕ, zero, suc, ◌+◌, max, Bool, true, false, not, ◌&&◌, ◌||◌, List, replicate, leb, ltb, eqb, ℤ, pos, negsuc}
 use Rattle.laws.specs.Choice.{pick}
 use Rattle.laws.specs.Lists.{onto}
 use Rattle.laws.specs.Numbers.{add_sat}
@@ -7,7 +7,6 @@ use Rattle.wire.specs.Length.{item_length}
 use Rattle.types.specs.Empty.{empty_batch}
 use Rattle.types.specs.declared.batch.BatchContainer.{BatchContainer}
 use Rattle.types.specs.declared.frame.FrameRecord.{FrameRecord}
-use Rattle.types.specs.declared.frame.FrameKind.{FrameKind}
 use Rattle.types.specs.declared.frame.FrameKind.TheVariants as kind
 use Rattle.types.specs.declared.message.Part.{Part}
 use Rattle.types.specs.declared.message.MaybePart.TheVariants as part
@@ -24,7 +23,6 @@ use Rattle.types.specs.declared.txn.MaybeTxnId.{MaybeTxnId}
 use Rattle.types.specs.declared.txn.MaybeTxnId.TheVariants as txn
 use Rattle.types.specs.declared.types.MaybeMessageId.{MaybeMessageId}
 use Rattle.types.specs.declared.types.MaybeMessageId.TheVariants as source
-use Rattle.types.specs.declared.types.SequenceId.{SequenceId}
 use Rattle.queue.specs.Queue.{Queue, Outgoing, Outcome, done, refuse}
 
 -- ── joining ──

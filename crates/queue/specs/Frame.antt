@@ -1,5 +1,5 @@
 -- A frame: command, metadata with parts as bytes, and payload; and the frames of a waiting record (document 01, 'batch', 'sends').
-use Rattle.std.specs.Prelude.{ℕ, ◌+◌, ◌-◌, ◌*◌, ◌^◌, min, Bool, true, false, ◌&&◌, List, [], ◌∷◌, length, take, ltb, eqb, ℤ}
+use Rattle.std.specs.Prelude.{ℕ, ◌+◌, ◌-◌, ◌*◌, ◌^◌, min, Bool, true, ◌&&◌, List, [], ◌∷◌, take, ltb, eqb, ℤ}
 use Rattle.std.proofs.Math.Option.{Option, some, none}
 use Rattle.laws.specs.Choice.{pick}
 use Rattle.types.specs.Values.{part_of, bytes_of, num_of, mark_of, txn_of, int32_of, int64_of, id_of, name_of, part_in, maybe_in}

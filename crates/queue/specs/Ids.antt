@@ -1,12 +1,11 @@
 -- Document 01, 'ids and clocks': sequence ids and deadlines.
-use Rattle.std.specs.Prelude.{ℕ, Bool, true, false, List, [], ◌∷◌, leb, ltb, eqb}
+use Rattle.std.specs.Prelude.{ℕ, Bool, false, List, [], ◌∷◌, leb, ltb, eqb}
 use Rattle.std.proofs.Math.Option.{Option, some, none}
 use Rattle.laws.specs.Choice.{pick}
 use Rattle.laws.specs.Numbers.{next_id, signed}
 use Rattle.types.specs.Ids.{before_next}
 use Rattle.types.specs.Time.{deadline_with_clamp}
 use Rattle.types.specs.Values.{num_of}
-use Rattle.types.specs.declared.batch.BatchContainer.{BatchContainer}
 use Rattle.types.specs.declared.entry.OpSend.{OpSend}
 use Rattle.types.specs.declared.stats.SequenceIds.{SequenceIds}
 use Rattle.queue.specs.Queue.{Queue, with_ids}

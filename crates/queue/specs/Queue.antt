@@ -1,8 +1,7 @@
 -- The send queue of a producer over plain lists, a new one, and what a call answers.
-use Rattle.std.specs.Prelude.{ℕ, Bool, true, false, List, [], ◌∷◌, ℤ, pos, negsuc}
+use Rattle.std.specs.Prelude.{ℕ, false, List, [], negsuc}
 use Rattle.types.specs.Empty.{empty_batch, empty_name}
 use Rattle.types.specs.declared.types.ProducerHandle.{ProducerHandle}
-use Rattle.types.specs.declared.types.SequenceId.{SequenceId}
 use Rattle.types.specs.declared.settings.ProducerSettings.{ProducerSettings}
 use Rattle.types.specs.declared.stats.SequenceIds.{SequenceIds}
 use Rattle.types.specs.declared.stats.Counters.{Counters}

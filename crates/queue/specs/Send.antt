@@ -18,9 +18,9 @@ use Rattle.types.specs.declared.message.OutgoingMessage.{OutgoingMessage}
 use Rattle.types.specs.declared.settings.ProducerSettings.{ProducerSettings}
 use Rattle.types.specs.declared.way.Way.{Way}
 use Rattle.types.specs.declared.way.Way.TheVariants.{TooLarge, Join, Single, Chunked}
-use Rattle.queue.specs.Queue.{Queue, Outgoing, Outcome, Answer, refused, done, refuse, with_out}
+use Rattle.queue.specs.Queue.{Queue, Outcome, Answer, refused, done, refuse, with_out}
 use Rattle.queue.specs.Ids.{assigned}
-use Rattle.queue.specs.Batch.{at_least_one, may_join, is_empty, is_full, same_txn, single_of, grown, push, counted, no_uuid, flushed, too_many}
+use Rattle.queue.specs.Batch.{at_least_one, may_join, is_empty, is_full, same_txn, single_of, grown, push, counted, flushed, too_many}
 
 -- what a send brings
 pub record Sending : Type 0 where

@@ -1,5 +1,5 @@
 -- Document 01, 'Who can cause a refusal', setup; and the calls that set the Rust's public settings and close the producer.
-use Rattle.std.specs.Prelude.{ℕ, ◌-◌, Bool, true, false, List, ◌++◌, length, replicate, leb}
+use Rattle.std.specs.Prelude.{ℕ, ◌-◌, Bool, true, List, ◌++◌, length, replicate, leb}
 use Rattle.laws.specs.Choice.{pick}
 use Rattle.types.specs.declared.frame.ProducerName.{ProducerName}
 use Rattle.types.specs.declared.settings.Limits.{Limits}

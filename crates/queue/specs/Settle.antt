@@ -1,5 +1,5 @@
 -- Document 01, 'receipts, errors, snapshot, replay' and 'ids and clocks': what settles a pending entry, and what times it out.
-use Rattle.std.specs.Prelude.{ℕ, suc, ◌+◌, Bool, true, false, ◌&&◌, ◌||◌, List, [], ◌∷◌, ◌++◌, map, length, take, drop, eqb, leb, ltb, ℤ}
+use Rattle.std.specs.Prelude.{ℕ, suc, Bool, true, false, ◌&&◌, ◌||◌, List, [], ◌∷◌, ◌++◌, map, length, take, drop, eqb, ltb, ℤ}
 use Rattle.std.proofs.Math.Option.{Option, some, none}
 use Rattle.laws.specs.Choice.{pick}
 use Rattle.types.specs.Ids.{of_receipt}

@@ -1,5 +1,5 @@
 -- Document 01, 'sends': taking the front frame, which writes its payload into a lent buffer.
-use Rattle.std.specs.Prelude.{ℕ, ◌+◌, ◌-◌, Bool, true, false, List, [], ◌∷◌, ◌++◌, length, drop, ltb}
+use Rattle.std.specs.Prelude.{ℕ, ◌+◌, ◌-◌, List, [], ◌∷◌, ◌++◌, length, drop, ltb}
 use Rattle.laws.specs.Choice.{pick}
 use Rattle.types.specs.declared.frame.ChunkedMessageContext.{ChunkedMessageContext}
 use Rattle.types.specs.declared.frame.FrameRecord.{FrameRecord}

@@ -1,5 +1,5 @@
 -- The loops over entries and ids of crate `tables`: what is found up to a place, and the rest to come. Assumes nothing.
-use Rattle.std.proofs.Common.{◌≡◌, ℕ, ◌+◌, ◌^◌, ◌<◌, ◌≤◌, Bool, true, false, ◌||◌, eqb, List, [], ◌∷◌, length, get_or, take, drop, sym, refl, ap, ◌∙◌, arith, eq-eqb, ne_eqb}
+use Rattle.std.proofs.Common.{◌≡◌, ℕ, ◌+◌, ◌^◌, ◌<◌, ◌≤◌, Bool, true, false, ◌||◌, eqb, List, length, get_or, take, drop, sym, refl, ap, ◌∙◌, arith, eq-eqb, ne_eqb}
 use Rattle.laws.specs.Numbers.{add_sat}
 use Rattle.laws.proofs.Gathers.{rest_next, rest_none}
 use Rattle.types.specs.declared.entry.OpSend.{OpSend}

@@ -1,5 +1,5 @@
 -- The loops over entries: for each an invariant, that says what is left to do, with how it begins, goes on and ends. Assumes nothing.
-use Rattle.std.proofs.Common.{◌≡◌, ℕ, zero, suc, ◌+◌, ◌-◌, ◌<◌, ◌≤◌, Bool, true, false, not, List, [], ◌∷◌, ◌++◌, length, get_or, take, drop, set, sym, refl, ap, ◌∙◌, append-nil, zero-le, add-one, arith, length-set, drop_of_length-le, length-take-le, drop-cons, get_or-take, take-suc-set}
+use Rattle.std.proofs.Common.{◌≡◌, ℕ, zero, suc, ◌+◌, ◌<◌, ◌≤◌, Bool, true, false, not, List, [], ◌∷◌, ◌++◌, length, get_or, take, drop, set, sym, refl, ap, ◌∙◌, append-nil, zero-le, add-one, arith, length-set, drop_of_length-le, length-take-le, drop-cons, get_or-take, take-suc-set}
 use mathlib.Core.Option.{Option}
 use lib.Seq.{append_snoc}
 use Rattle.laws.specs.Choice.{pick}
@@ -9,7 +9,7 @@ use Rattle.types.specs.declared.optional.MaybeU64.{MaybeU64}
 use Rattle.types.specs.declared.optional.MaybeU64.TheVariants.{Absent, Present}
 use Rattle.queue.specs.Ids.{after, elapsed}
 use Rattle.queue.specs.Settle.{due_count}
-use Rattle.queue.specs.Tables.{is_batched, batched_of, framed_of}
+use Rattle.queue.specs.Tables.{is_batched, framed_of}
 use Rattle.upkeep.specs.Deadline.{maybe_after, has_elapsed}
 use Rattle.upkeep.specs.Pending.{cleared_all}
 use Rattle.tables.specs.Drain.{is_due, cleared_each}

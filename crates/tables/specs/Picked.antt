@@ -1,5 +1,5 @@
 -- The entries of one kind.
-use Rattle.std.specs.Prelude.{◌≡◌, ℕ, Bool, not, List, length, take}
+use Rattle.std.specs.Prelude.{◌≡◌, Bool, not, List, length, take}
 use Rattle.laws.specs.Choice.{pick}
 use Rattle.types.specs.declared.entry.OpSend.{OpSend}
 use Rattle.queue.specs.Tables.{batched_of, framed_of}

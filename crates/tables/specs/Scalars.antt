@@ -1,5 +1,5 @@
 -- What the scalars are after a drain or a snapshot. These mirror the code.
-use Rattle.std.specs.Prelude.{ℕ, ◌+◌, ◌-◌, ◌%◌, min, false}
+use Rattle.std.specs.Prelude.{ℕ, ◌-◌, min, false}
 use Rattle.laws.specs.Ring.{slot}
 use Rattle.types.specs.Empty.{empty_batch}
 use Rattle.types.specs.declared.settings.Setting.TheVariants.{BrokerReady}

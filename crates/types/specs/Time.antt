@@ -1,5 +1,5 @@
 -- Document 01, time.rs.
-use Rattle.std.specs.Prelude.{ℕ, ◌+◌, ◌-◌, ◌^◌, min, ltb}
+use Rattle.std.specs.Prelude.{ℕ, ◌+◌, ◌^◌, ltb}
 use Rattle.laws.specs.Choice.{pick}
 use Rattle.laws.specs.Numbers.{add_sat}
 

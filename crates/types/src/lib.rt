@@ -1,5 +1,7 @@
 // The values that the send queue is made of: identifiers, times, transactions, reservations and refusals file by file as in
 // the Rust, and from its producer.rs the message, the frames that wait, the pending entries and the scalars of a producer.
+#![tactic(auto)]
+
 pub mod answer;
 pub mod batch;
 pub mod command;

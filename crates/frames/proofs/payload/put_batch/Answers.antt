@@ -1,12 +1,11 @@
 -- `frames::payload::put_batch`: the items written and those still to come are the payload.
-use borrow.Author.Rules.{rules}
-use mathlib.Core.Path.{◌≡◌, refl, ap, subst, ◌∙◌}
+use mathlib.Core.Path.{◌≡◌, ap, subst, ◌∙◌}
 use mathlib.Core.List.{List, []}
-use Prim.Native.Nat.{ℕ, ◌+◌, ◌-◌, ◌<◌, ◌≤◌}
+use Prim.Native.Nat.{ℕ, ◌+◌, ◌<◌, ◌≤◌}
 use lib.ListN.{length, drop, drop_of_length-le}
 use Rattle.laws.specs.Ring.{ring}
 use Rattle.wire.specs.Batch.{items, batch_payload}
-use Rattle.wire.proofs.Writes.{Going, going_start, going_room, going_step, going_end, same}
+use Rattle.wire.proofs.Writes.{Going, going_room, going_step, going_end, same}
 use Rattle.frames.proofs.Batches.{held_length, held_next, held_in_lem}
 use native.Mathlib.Omega.{arith}
 use Rattle.frames.proofs.payload.put_batch.Goals as goal

@@ -1,5 +1,4 @@
 -- `rules::batch::can_add`: the four tests are the definition's.
-use borrow.Author.Rules.{rules}
 use mathlib.Core.Path.{ap, ◌∙◌}
 use mathlib.Core.Bool.{not, ◌&&◌}
 use lib.Dec.{leb}

@@ -1,5 +1,4 @@
 -- `script::answer::put_batch`: its writes one after the other.
-use borrow.Author.Rules.{rules}
 use Rattle.script.proofs.Outputs.{next}
 use Rattle.script.proofs.answer.put_batch.Goals as goal
 

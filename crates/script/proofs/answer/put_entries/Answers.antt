@@ -1,8 +1,6 @@
 -- `script::answer::put_entries`: an entry more in each turn.
 use borrow.Author.Rules.{rules}
-use Rattle.std.specs.Prelude.{◌≡◌, ◌-◌, min}
-use Rattle.script.specs.Output.{Wrote}
-use Rattle.script.proofs.Outputs.{nothing, next}
+use Rattle.script.proofs.Outputs.{next}
 use Rattle.script.proofs.answer.put_entries.Goals as goal
 
 pub loop-i-preserved : goal.loop-i-preserved

@@ -1,8 +1,6 @@
 -- `script::answer::put_entries`: an entry more in each turn.
-use borrow.Author.Rules.{rules}
 use Rattle.std.specs.Prelude.{◌≡◌, ◌-◌, min}
 use Rattle.script.specs.Output.{Wrote}
-use Rattle.script.proofs.Outputs.{nothing, next}
 use Rattle.script.proofs.answer.put_entries.Given as goal
 
 abbrev pub invariant-loop-i : goal.invariant-loop-i

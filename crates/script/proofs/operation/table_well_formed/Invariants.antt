@@ -1,5 +1,4 @@
 -- `script::operation::table_well_formed`: an entry in each turn.
-use borrow.Author.Rules.{rules}
 use Rattle.std.specs.Prelude.{◌≡◌, ◌-◌, ◌/◌}
 use Rattle.script.proofs.operation.table_well_formed.Given as goal
 

@@ -1,5 +1,4 @@
 -- `script::read::uuid_at`: a byte in each turn.
-use borrow.Author.Rules.{rules}
 use Rattle.std.specs.Prelude.{◌-◌}
 use Rattle.script.proofs.read.uuid_at.Given as goal
 

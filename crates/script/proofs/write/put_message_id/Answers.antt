@@ -1,5 +1,4 @@
 -- `script::write::put_message_id`: its writes one after the other.
-use borrow.Author.Rules.{rules}
 use Rattle.script.proofs.Outputs.{next}
 use Rattle.script.proofs.write.put_message_id.Goals as goal
 

@@ -1,9 +1,6 @@
 -- `script::write::put_raw`: a byte more in each turn.
-use borrow.Author.Rules.{rules}
-use Rattle.std.specs.Prelude.{◌≡◌, ◌-◌, ◌≤◌, length}
-use mathlib.Core.Path.{refl}
+use Rattle.std.specs.Prelude.{◌≡◌, ◌-◌, length}
 use Rattle.script.specs.Output.{Wrote}
-use Rattle.script.proofs.Outputs.{nothing, next}
 use Rattle.script.proofs.write.put_raw.Given as goal
 
 abbrev pub invariant-loop-i : goal.invariant-loop-i

@@ -1,5 +1,4 @@
 -- `script::write::put_txn_halves`: its writes one after the other.
-use borrow.Author.Rules.{rules}
 use Rattle.script.proofs.Outputs.{next}
 use Rattle.script.proofs.write.put_txn_halves.Goals as goal
 

@@ -1,5 +1,5 @@
 -- `tables::copy::copy_entries`: one entry more stands in the table.
-use Rattle.std.proofs.Common.{◌≡◌, ◌<◌, ◌∙◌, ap, arith, length, slice_set}
+use Rattle.std.proofs.Common.{◌<◌, arith, length}
 use Rattle.tables.proofs.Loaded.{filled_step}
 use Rattle.tables.proofs.copy.copy_entries.Goals as goal
 

@@ -1,8 +1,7 @@
 -- `drain::due_count`: all entries before the one at hand are due.
-use Rattle.std.proofs.Common.{◌≡◌, ◌-◌, length, take, sym, ap, ◌∙◌, arith, length-take-le, rules}
-use Rattle.tables.specs.Drain.{is_due}
+use Rattle.std.proofs.Common.{◌-◌, take}
 use Rattle.types.specs.Values.{num_of}
-use Rattle.tables.proofs.Turns.{Due, due_start, due_step, due_stop, due_end, front_at}
+use Rattle.tables.proofs.Turns.{Due}
 use Rattle.tables.proofs.drain.due_count.Given as goal
 
 abbrev pub invariant-loop-i : goal.invariant-loop-i

@@ -1,8 +1,6 @@
 -- `drain::unmark_each`: the ids before the one at hand are cleared.
-use Rattle.std.proofs.Common.{◌≡◌, ◌-◌, length, take, sym, ap, ◌∙◌, arith, length-take-le, rules}
-use Rattle.types.specs.declared.entry.OpSend.{OpSend}
-use Rattle.upkeep.specs.Pending.{cleared_all}
-use Rattle.tables.proofs.Turns.{Gone, gone_start, gone_step, gone_end, front_at}
+use Rattle.std.proofs.Common.{◌-◌, take}
+use Rattle.tables.proofs.Turns.{Gone}
 use Rattle.tables.proofs.drain.unmark_each.Given as goal
 
 abbrev pub invariant-loop-i : goal.invariant-loop-i

@@ -1,6 +1,5 @@
 -- `tables::load::all_well_formed`: one entry more is tested.
-use Rattle.std.proofs.Common.{◌≡◌, ◌<◌, ◌∙◌, ◌&&◌, ap, arith, length}
-use Rattle.queue.specs.Tables.{well_formed_as}
+use Rattle.std.proofs.Common.{◌∙◌, arith}
 use Rattle.tables.proofs.Loaded.{tested_step}
 use Rattle.tables.proofs.load.all_well_formed.Goals as goal
 

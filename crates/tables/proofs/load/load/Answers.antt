@@ -1,5 +1,5 @@
 -- `tables::load::load`: one entry more stands in the array, and at the end as many as the table has, at most 256.
-use Rattle.std.proofs.Common.{◌≡◌, ◌<◌, ◌≤◌, ◌∙◌, ap, arith, length, slice_set, take, min}
+use Rattle.std.proofs.Common.{◌<◌, ◌∙◌, ap, arith, length, take, min}
 use Rattle.tables.proofs.Loaded.{filled_step, filled_first}
 use Rattle.tables.proofs.load.load.Goals as goal
 

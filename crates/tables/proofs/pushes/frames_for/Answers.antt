@@ -1,7 +1,7 @@
 -- `tables::pushes::frames_for`: the sum so far and the frames still to come are those of all entries.
-use Rattle.std.proofs.Common.{◌≡◌, ℕ, ◌+◌, ◌-◌, ◌^◌, ◌<◌, ◌≤◌, length, sym, ap, ◌∙◌, subst, arith, rules}
+use Rattle.std.proofs.Common.{ℕ, ◌+◌, ◌≤◌, length, sym, ap, ◌∙◌, subst, arith}
 use Rattle.laws.specs.Numbers.{add_sat}
-use Rattle.tables.proofs.Sums.{Added, added_start, added_step, added_end}
+use Rattle.tables.proofs.Sums.{Added, added_step, added_end}
 use Rattle.tables.proofs.pushes.frames_for.Goals as goal
 
 pub loop-i-preserved : goal.loop-i-preserved

@@ -1,7 +1,6 @@
 -- `tables::pushes::frames_for`: the sum so far and the frames still to come are those of all entries.
-use Rattle.std.proofs.Common.{◌≡◌, ℕ, ◌+◌, ◌-◌, ◌^◌, ◌<◌, ◌≤◌, length, sym, ap, ◌∙◌, subst, arith, rules}
-use Rattle.laws.specs.Numbers.{add_sat}
-use Rattle.tables.proofs.Sums.{Added, added_start, added_step, added_end}
+use Rattle.std.proofs.Common.{◌-◌, ◌^◌, ◌<◌, ◌≤◌, length}
+use Rattle.tables.proofs.Sums.{Added}
 use Rattle.tables.proofs.pushes.frames_for.Given as goal
 
 abbrev pub invariant-loop-i : goal.invariant-loop-i

@@ -1,6 +1,6 @@
 -- `tables::unborne::is_borne`: no id before the place is the one asked for, and the loop stops at the first that is.
-use Rattle.std.proofs.Common.{◌-◌, ◌≤◌, length, arith, rules}
-use Rattle.tables.proofs.Sums.{Passed, passed_start, passed_step, passed_hit, passed_all}
+use Rattle.std.proofs.Common.{◌-◌, ◌≤◌, length}
+use Rattle.tables.proofs.Sums.{Passed}
 use Rattle.tables.proofs.unborne.is_borne.Given as goal
 
 abbrev pub invariant-loop-i : goal.invariant-loop-i

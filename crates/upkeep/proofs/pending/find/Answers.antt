@@ -5,12 +5,11 @@ use lib.Dec.{lit<, eqb}
 use lib.ListN.{length, get_or}
 use Rattle.laws.specs.Ring.{slot}
 use Rattle.laws.proofs.Slots.{slot_below}
-use Rattle.laws.proofs.Loops.{Missed, missed_step, missed_hit, missed_all}
+use Rattle.laws.proofs.Loops.{missed_step, missed_hit, missed_all}
 use Rattle.upkeep.specs.Pending.{keys, wanted, to_found}
 use Rattle.upkeep.proofs.Keys.{length_keys, keys_at}
-use Prim.Native.Nat.{ℕ, ◌-◌, ◌<◌}
-use mathlib.Core.Path.{◌≡◌, refl, ap, sym, ◌∙◌}
-use borrow.Author.Rules.{rules}
+use Prim.Native.Nat.{ℕ, ◌<◌}
+use mathlib.Core.Path.{◌≡◌, ap, sym, ◌∙◌}
 use native.Mathlib.Omega.{arith}
 use Rattle.upkeep.proofs.pending.find.Goals as goal
 

@@ -1,8 +1,6 @@
 -- `upkeep::pending::unmark`: the marks before the place are cleared, and the rest is to come.
 use Prim.Native.Nat.{◌-◌}
-use Rattle.upkeep.proofs.Keys.{Clearing, clear_start, clear_step, clear_end}
-use borrow.Author.Rules.{rules}
-use native.Mathlib.Omega.{arith}
+use Rattle.upkeep.proofs.Keys.{Clearing}
 use Rattle.upkeep.proofs.pending.unmark.Given as goal
 
 abbrev pub invariant-loop-i : goal.invariant-loop-i

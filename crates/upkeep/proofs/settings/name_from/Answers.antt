@@ -1,10 +1,9 @@
 -- `upkeep::settings::name_from`: the bytes before the place are copied, and zeros stand behind them.
-use Prim.Native.Nat.{ℕ, ◌-◌, ◌≤◌}
+use Prim.Native.Nat.{ℕ}
 use mathlib.Core.List.{List}
-use mathlib.Core.Path.{◌≡◌, refl, ap, ◌∙◌}
-use lib.ListN.{length, get_or, set}
-use Rattle.upkeep.proofs.Names.{padded, padded_step, padded_end, front_length}
-use borrow.Author.Rules.{rules}
+use mathlib.Core.Path.{ap, ◌∙◌}
+use lib.ListN.{get_or, set}
+use Rattle.upkeep.proofs.Names.{padded_step, padded_end, front_length}
 use native.Mathlib.Omega.{arith}
 use Rattle.upkeep.proofs.settings.name_from.Goals as goal
 

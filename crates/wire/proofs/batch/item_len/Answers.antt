@@ -1,6 +1,5 @@
 -- `wire::batch::item_len`: the four bytes, the single metadata and the payload, added.
 use native.Mathlib.Omega.{arith}
-use borrow.Author.Rules.{rules}
 use Rattle.wire.specs.Length.{item_length}
 use Rattle.wire.proofs.batch.item_len.Goals as goal
 

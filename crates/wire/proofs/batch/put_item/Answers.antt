@@ -1,5 +1,4 @@
 -- `wire::batch::put_item`: the four bytes go in front of the single metadata, and the payload behind it.
-use borrow.Author.Rules.{rules}
 use native.Mathlib.Omega.{arith}
 use native.Mathlib.Nat.{add-sub_cancel_left, zero-add}
 use Prim.Native.Nat.{ℕ, ◌+◌, ◌-◌, ◌≤◌}
@@ -12,7 +11,7 @@ use Rattle.wire.specs.Single.{single}
 use Rattle.wire.specs.Batch.{Item, item, item_of, metadata_of}
 use Rattle.wire.specs.Buffer.{Room, Puts}
 use Rattle.wire.proofs.Writes.{before, second_room, last_room, lent_at, then, lent_room, same}
-use Rattle.wire.proofs.Lengths.{part_end, be32_length}
+use Rattle.wire.proofs.Lengths.{be32_length}
 use Rattle.wire.proofs.batch.put_item.Goals as goal
 
 four-fit : (i : Item) {at : ℕ} {d : List ℕ} → Room (item i) at d → at + 4 ≤ length d

@@ -1,9 +1,7 @@
 -- `wire::be32::put_be32`: four stores in a row.
 use native.Mathlib.Omega.{arith}
-use borrow.Author.Rules.{rules}
 use Prim.Native.Nat.{◌+◌, suc}
 use mathlib.Core.Path.{◌≡◌}
-use lib.ListN.{length-set}
 use lib.Seq.{sets-eq}
 use Rattle.wire.specs.Proto.{be32}
 use Rattle.wire.proofs.be32.put_be32.Goals as goal

@@ -1,12 +1,7 @@
 -- `wire::copy::copy`: up to `i` the buffer holds what the source does, and from there on what it held before.
-use native.Mathlib.Omega.{arith}
-use borrow.Author.Rules.{rules}
-use Prim.Native.Nat.{◌+◌, ◌-◌, ◌≤◌, ◌<◌}
-use mathlib.Core.Path.{◌≡◌, refl, ◌∙◌}
-use lib.ListN.{length, take, drop, length-set, get_or}
-use lib.Seq.{take-suc, take_all}
-use native.Mathlib.Numerals.{add-one}
-use Rattle.wire.proofs.Writes.{front, rest, whole}
+use Prim.Native.Nat.{◌-◌, ◌≤◌}
+use mathlib.Core.Path.{◌≡◌}
+use lib.ListN.{length, take, drop}
 use Rattle.wire.proofs.copy.copy.Given as goal
 
 abbrev pub invariant-loop-i : goal.invariant-loop-i

@@ -1,6 +1,5 @@
 -- `wire::field::number_len`: the lengths of the key and the value.
 use native.Mathlib.Omega.{arith}
-use borrow.Author.Rules.{rules}
 use lib.ListN.{length-append}
 use Rattle.wire.specs.Proto.{key, varint_field}
 use Rattle.wire.proofs.field.number_len.Goals as goal

@@ -1,5 +1,4 @@
 -- `wire::field::put_bytes`: the key, the length and then the bytes, to which the rest of the buffer is lent.
-use borrow.Author.Rules.{rules}
 use Rattle.wire.specs.Proto.{key, bytes_field}
 use Rattle.wire.proofs.Writes.{next, first_room, last_room, then, lent_room}
 use Rattle.wire.proofs.field.put_bytes.Goals as goal

@@ -1,5 +1,4 @@
 -- `wire::field::put_number`: the key and then the value.
-use borrow.Author.Rules.{rules}
 use Rattle.wire.specs.Proto.{key, varint_field}
 use Rattle.wire.proofs.Writes.{next, first_room, last_room}
 use Rattle.wire.proofs.field.put_number.Goals as goal

@@ -1,5 +1,4 @@
 -- `wire::single::put_single`: the six fields, one after the other.
-use borrow.Author.Rules.{rules}
 use Rattle.wire.proofs.Writes.{next, first_room, last_room}
 use Rattle.wire.proofs.Lengths.{single_written}
 use Rattle.wire.proofs.single.put_single.Goals as goal

@@ -1,5 +1,4 @@
 -- `wire::single::single_len`: the lengths of the six fields, added.
-use borrow.Author.Rules.{rules}
 use lib.ListN.{length-append}
 use Rattle.wire.specs.Single.{single}
 use Rattle.wire.specs.Length.{single_length}

@@ -1,12 +1,10 @@
 -- `wire::uuid::put_uuid`: what is written and the text of the bytes that are left make the whole text.
 use native.Mathlib.Omega.{arith}
-use borrow.Author.Rules.{rules}
-use Prim.Native.Nat.{◌-◌, ◌≤◌}
-use mathlib.Core.Path.{◌≡◌, refl, ◌∙◌}
-use lib.ListN.{length, drop, drop_of_length-le}
+use mathlib.Core.Path.{◌∙◌}
+use lib.ListN.{drop_of_length-le}
 use Rattle.wire.specs.Uuid.{text_from}
 use Rattle.wire.proofs.UuidLaws.{text_step}
-use Rattle.wire.proofs.Writes.{Going, going_start, going_room, going_step, going_end, same}
+use Rattle.wire.proofs.Writes.{going_room, going_step, going_end, same}
 use Rattle.wire.proofs.uuid.put_uuid.Goals as goal
 
 pub put_dash-at-requires : goal.put_dash-at-requires

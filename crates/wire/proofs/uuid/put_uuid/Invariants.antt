@@ -1,12 +1,9 @@
 -- `wire::uuid::put_uuid`: what is written and the text of the bytes that are left make the whole text.
-use native.Mathlib.Omega.{arith}
-use borrow.Author.Rules.{rules}
 use Prim.Native.Nat.{◌-◌, ◌≤◌}
-use mathlib.Core.Path.{◌≡◌, refl, ◌∙◌}
-use lib.ListN.{length, drop, drop_of_length-le}
+use mathlib.Core.Path.{◌≡◌}
+use lib.ListN.{length, drop}
 use Rattle.wire.specs.Uuid.{text_from}
-use Rattle.wire.proofs.UuidLaws.{text_step}
-use Rattle.wire.proofs.Writes.{Going, going_start, going_room, going_step, going_end, same}
+use Rattle.wire.proofs.Writes.{Going}
 use Rattle.wire.proofs.uuid.put_uuid.Given as goal
 
 abbrev pub invariant-loop-i : goal.invariant-loop-i

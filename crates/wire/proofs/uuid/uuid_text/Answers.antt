@@ -1,6 +1,5 @@
 -- `wire::uuid::uuid_text`: the text fills the 36 characters.
 use native.Mathlib.Omega.{arith}
-use borrow.Author.Rules.{rules}
 use mathlib.Core.Path.{sym, ◌∙◌}
 use Rattle.wire.proofs.UuidLaws.{text_length, by_bytes}
 use Rattle.wire.proofs.Writes.{filled}

@@ -1,10 +1,9 @@
 -- `wire::varint::put_varint`: what is written and the varint of what is left make the varint of `v`.
 use native.Mathlib.Omega.{arith}
-use borrow.Author.Rules.{rules}
 use Prim.Native.Nat.{◌+◌, ◌<◌, ◌%◌}
-use mathlib.Core.Path.{◌≡◌, refl, ap}
-use mathlib.Core.List.{◌++◌, append_assoc}
-use lib.ListN.{length, take, drop, set, length-set}
+use mathlib.Core.Path.{◌≡◌, ap}
+use mathlib.Core.List.{append_assoc}
+use lib.ListN.{length, set, length-set}
 use Rattle.wire.specs.Proto.{varint}
 use Rattle.wire.proofs.VarintLaws.{small, large, one_or_more}
 use Rattle.wire.proofs.Writes.{front, rest, whole}

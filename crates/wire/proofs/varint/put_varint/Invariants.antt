@@ -1,13 +1,9 @@
 -- `wire::varint::put_varint`: what is written and the varint of what is left make the varint of `v`.
-use native.Mathlib.Omega.{arith}
-use borrow.Author.Rules.{rules}
-use Prim.Native.Nat.{◌+◌, ◌<◌, ◌%◌}
-use mathlib.Core.Path.{◌≡◌, refl, ap}
-use mathlib.Core.List.{◌++◌, append_assoc}
-use lib.ListN.{length, take, drop, set, length-set}
+use Prim.Native.Nat.{◌+◌}
+use mathlib.Core.Path.{◌≡◌}
+use mathlib.Core.List.{◌++◌}
+use lib.ListN.{length, take, drop}
 use Rattle.wire.specs.Proto.{varint}
-use Rattle.wire.proofs.VarintLaws.{small, large, one_or_more}
-use Rattle.wire.proofs.Writes.{front, rest, whole}
 use Rattle.wire.proofs.varint.put_varint.Given as goal
 
 abbrev pub invariant-loop-rest : goal.invariant-loop-rest

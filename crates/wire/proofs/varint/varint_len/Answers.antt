@@ -1,10 +1,7 @@
 -- `wire::varint::varint_len`: each turn takes one byte off what is left, and counts it.
 use native.Mathlib.Omega.{arith}
-use borrow.Author.Rules.{rules}
-use Prim.Native.Nat.{◌+◌, ◌≤◌}
-use mathlib.Core.Path.{◌≡◌, ap}
+use mathlib.Core.Path.{ap}
 use lib.ListN.{length}
-use Rattle.wire.specs.Proto.{varint}
 use Rattle.wire.proofs.VarintLaws.{small, large, at_most_ten}
 use Rattle.wire.proofs.varint.varint_len.Goals as goal
 

@@ -1,8 +1,6 @@
 -- `Core::choose`: the refusals are the definition's, in its order.
-use borrow.Author.Rules.{rules}
 use Rattle.std.specs.Prelude.{◌≡◌, ℕ, Bool, not}
 use mathlib.Core.Path.{refl, ap, sym, ◌∙◌}
-use borrow.Author.Tests.{not-false}
 use Rattle.laws.specs.Choice.{pick}
 use Rattle.types.specs.declared.error.ProducerError.TheVariants.{Closed, PartOutside, OverBound}
 use Rattle.types.specs.declared.message.OutgoingMessage.{OutgoingMessage}
@@ -10,7 +8,6 @@ use Rattle.queue.specs.Send.{message_in, within_bounds}
 use Rattle.plans.specs.declared.state.Core.{Core}
 use Rattle.plans.specs.declared.choose.SendPlan.TheVariants.{Refuse}
 use Rattle.plans.specs.Choose.{chosen_within, chosen}
-use Rattle.plans.proofs.Within.{payload_bound}
 use Rattle.plans.proofs.state.Core.choose.Goals as goal
 
 -- by the tests, each as the code has it and with what it gave

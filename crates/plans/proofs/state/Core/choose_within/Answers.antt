@@ -1,5 +1,4 @@
 -- `Core::choose_within`: the refusals are the definition's, in its order.
-use borrow.Author.Rules.{rules}
 use Rattle.std.specs.Prelude.{◌≡◌, ℕ, ◌+◌, min, Bool, not, ◌&&◌, ltb, leb}
 use mathlib.Core.Path.{refl, ap, sym, ◌∙◌}
 use Rattle.laws.specs.Choice.{pick}

@@ -1,5 +1,4 @@
 -- `Core::flushes_before`: both flushes are the definition's.
-use borrow.Author.Rules.{rules}
 use Rattle.std.specs.Prelude.{not, ◌&&◌, ◌||◌, eqb}
 use Rattle.queue.specs.Send.{flushes_before}
 use Rattle.plans.proofs.state.Core.flushes_before.Goals as goal

@@ -1,5 +1,4 @@
 -- `Core::follow`: the match is the definition's.
-use borrow.Author.Rules.{rules}
 use mathlib.Core.Path.{ap, sym, ◌∙◌}
 use Rattle.types.specs.declared.way.Way.{Way}
 use Rattle.plans.specs.Send.{followed}

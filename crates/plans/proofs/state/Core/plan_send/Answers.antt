@@ -1,5 +1,4 @@
 -- `Core::plan_send`: the choice is the definition's, and each side carries it out.
-use borrow.Author.Rules.{rules}
 use mathlib.Core.Path.{ap, sym, ◌∙◌}
 use Rattle.plans.specs.declared.choose.SendPlan.{SendPlan}
 use Rattle.plans.specs.Send.{plan_out, planned}

@@ -1,13 +1,12 @@
 -- `Core::set_name`: the test is the definition's, and each side is one of its two answers.
-use Rattle.std.specs.Prelude.{◌≡◌, length}
+use Rattle.std.specs.Prelude.{length}
 use mathlib.Core.Path.{ap, sym, ◌∙◌}
 use borrow.Author.Tests.{leb-true}
 use lib.Seq.{take_all}
-use Rattle.laws.proofs.Choice.{pick_true, pick_false}
+use Rattle.laws.proofs.Choice.{pick_true}
 use Rattle.types.specs.declared.frame.ProducerName.{ProducerName}
 use Rattle.queue.specs.Settings.{name_from, with_name}
 use Rattle.plans.specs.Settings.{set_to, refused}
-use borrow.Author.Rules.{rules}
 use Rattle.plans.proofs.state.Core.set_name.Goals as goal
 
 pub returns-then-allows_name : goal.returns-then-allows_name
