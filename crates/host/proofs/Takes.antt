@@ -1,5 +1,5 @@
 -- A take writes its payload to the start of the buffer that it is lent.
-use Rattle.std.proofs.Common.{◌≡◌, ℕ, ◌+◌, ◌-◌, ◌≤◌, min, List, ◌++◌, length, take, drop, refl, ap, ◌∙◌, arith, length-drop, length-take, length-take-le, drop_at}
+use Rattle.std.proofs.Common.{◌≡◌, ℕ, ◌-◌, ◌≤◌, min, List, ◌++◌, length, take, drop, refl, ap, ◌∙◌, arith, length-drop, length-take, length-take-le, drop_at}
 use Rattle.types.specs.declared.answer.Outcome.{Outcome}
 use Rattle.types.specs.declared.answer.Outcome.TheVariants.{Done, Refused}
 use Rattle.types.specs.declared.outbound.OutboundFrame.{OutboundFrame}

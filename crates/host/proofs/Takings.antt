@@ -20,7 +20,7 @@ use Rattle.wire.specs.Length.{stopped, item_length}
 use Rattle.wire.proofs.Lengths.{item_length_lem}
 use Rattle.wire.proofs.Writes.{same}
 use Rattle.queue.specs.Frame.{single_in}
-use Rattle.frames.specs.Span.{borne, name_in, skip_of, piece_len, span_at, message_span}
+use Rattle.frames.specs.Span.{name_in, skip_of, piece_len, span_at, message_span}
 use Rattle.frames.specs.Answer.{answer_of, is_done}
 use Rattle.frames.specs.Outbound.{frame_out}
 use Rattle.frames.specs.declared.span.Span.{Span}

@@ -144,9 +144,10 @@ fn call_error(
     let r = s.apply_send_error(err);
     let answer = r.answer;
     let op = r.op;
+    let error = r.error;
     Called {
         state: r.state,
-        to: put_error(out, to, code, answer, r.error, op),
+        to: put_error(out, to, code, answer, error, op),
     }
 }
 
@@ -248,6 +249,7 @@ fn call_query(
 ) -> usize
     ensures { Wrote to out.old out.new result }
 {
+    let s = *s;
     match code {
         0x20 => put_deadline(out, to, code, s.next_send_deadline()),
         0x21 => put_deadline(out, to, code, s.next_batch_deadline()),
@@ -268,7 +270,7 @@ fn call_query(
         ),
         0x24 => put_len(out, to, code, s.outbound_len()),
         0x25 => put_stats(out, to, code, s.stats()),
-        _ => put_dump(*s, out, to),
+        _ => put_dump(s, out, to),
     }
 }
 

@@ -1,11 +1,10 @@
 -- The ids of the waiting frames, and the entries that none of them bears. Assumes nothing.
-use Rattle.std.proofs.Common.{◌≡◌, ℕ, zero, suc, ◌+◌, ◌<◌, ◌≤◌, min, Bool, true, false, not, ◌||◌, eqb, List, [], ◌∷◌, map, length, get_or, take, set, sym, refl, ap, ◌∙◌, zero-le, arith, lit<, length-set, take_all}
+use Rattle.std.proofs.Common.{◌≡◌, ℕ, zero, suc, ◌+◌, ◌<◌, ◌≤◌, min, Bool, true, false, not, ◌||◌, eqb, List, [], ◌∷◌, map, length, get_or, take, set, refl, ap, ◌∙◌, zero-le, arith, lit<, length-set, take_all}
 use lib.ListN.{length-map, get_or-map}
 use Rattle.laws.specs.Choice.{pick}
 use Rattle.laws.specs.Lists.{keeping}
 use Rattle.laws.specs.Ring.{ring, slot}
-use Rattle.laws.proofs.Rings.{ring_map, ring_at, length_ring}
-use Rattle.laws.proofs.Slots.{slot_below}
+use Rattle.laws.proofs.Rings.{ring_at, length_ring}
 use Rattle.types.specs.declared.entry.OpSend.{OpSend}
 use Rattle.types.specs.declared.frame.FrameRecord.{FrameRecord}
 use Rattle.queue.specs.Tables.{borne, unborne}
@@ -87,9 +86,3 @@ module _ (s : ProducerState) (f : Full s) (ids : List ℕ) where
           low = omega arith;
           same = take_copied names ids i x h (omega (arith, l.len)) (get_d_any names i x (frame_id d) h ∙ name_there i d b) l.same;
         }
-
-    pub naming_end : min s.core.rings.outbound_len 1024 ≤ i → take (min s.core.rings.outbound_len 1024) ids ≡ map frame_id (view s).out.frames
-    naming_end b =
-        let e : length (map frame_id (view s).out.frames) ≡ min s.core.rings.outbound_len 1024 = length_names in
-        let k : min s.core.rings.outbound_len 1024 ≡ i = omega (arith, l.low) in
-        ap (λ (j : ℕ). take j ids) k ∙ l.same ∙ take_all i (map frame_id (view s).out.frames) (omega arith)

@@ -1,14 +1,13 @@
 -- The loop that closes a gap in the pending entries: what is to leave stands at the loop's place. Assumes nothing.
-use Rattle.std.proofs.Common.{◌≡◌, ℕ, ◌+◌, ◌-◌, ◌<◌, ◌≤◌, min, List, length, get_or, set, sym, refl, ap, ◌∙◌, arith, lit<, length-set}
-use Rattle.laws.specs.Ring.{ring, slot}
+use Rattle.std.proofs.Common.{◌≡◌, ℕ, ◌+◌, ◌<◌, ◌≤◌, min, length, get_or, set, refl, ap, arith, lit<, length-set}
+use Rattle.laws.specs.Ring.{slot}
 use Rattle.laws.proofs.Slots.{slot_below}
 use Rattle.laws.proofs.Loops.{Shift, shift_step, shift_end}
-use Rattle.types.specs.declared.entry.OpSend.{OpSend}
 use Rattle.types.specs.declared.entry.Publish.{Publish}
 use Rattle.producer.specs.View.{entry_of, slots_of}
 use Rattle.producer.specs.Settle.{with_slots, GapClosed}
 use Rattle.producer.specs.declared.state.ProducerState.{ProducerState}
-use Rattle.producer.proofs.Entries.{length_entries, entries_at, entries_set}
+use Rattle.producer.proofs.Entries.{entries_at, entries_set}
 use Rattle.producer.proofs.Full.{Full, slots}
 
 pos : 0 < 256

@@ -55,9 +55,3 @@ module _ (s : ProducerState) (f : Full s) (all : List OpSend) where
           low = omega arith;
           same = take_copied (view s).pending all i op (omega arith) (omega (arith, l.len)) (entry_there s f i d op e) l.same;
         }
-
-    pub listing_end : min s.core.rings.pending_len 256 ≤ i → take (min s.core.rings.pending_len 256) all ≡ (view s).pending
-    listing_end b =
-        let e₁ : length (view s).pending ≡ min s.core.rings.pending_len 256 = length_view s f in
-        let k : min s.core.rings.pending_len 256 ≡ i = omega (arith, l.low) in
-        ap (λ (j : ℕ). take j all) k ∙ l.same ∙ take_all i (view s).pending (omega arith)

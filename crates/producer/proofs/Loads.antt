@@ -1,5 +1,5 @@
 -- `replay_snapshots` by what is loaded of the table: of a table over 256 its length is enough. Assumes nothing.
-use Rattle.std.proofs.Common.{◌≡◌, ℕ, ◌+◌, ◌<◌, ◌≤◌, min, Bool, true, false, not, ltb, List, length, take, sym, refl, ap, ◌∙◌, arith, take_all, lt-ltb}
+use Rattle.std.proofs.Common.{◌≡◌, ℕ, ◌+◌, ◌<◌, min, Bool, not, List, length, take, sym, refl, ap, ◌∙◌, arith, take_all, lt-ltb}
 use native.Mathlib.Decide.{dec_lt}
 use Rattle.laws.specs.Choice.{pick}
 use Rattle.laws.proofs.Choice.{pick_true}

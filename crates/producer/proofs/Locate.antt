@@ -1,9 +1,8 @@
 -- Where an id stands among the pending entries: the search on ids and marks is that of the definitions. Assumes nothing.
-use Rattle.std.proofs.Common.{◌≡◌, ℕ, zero, suc, ◌+◌, ◌-◌, ◌<◌, ◌≤◌, min, Bool, true, false, not, ◌&&◌, ◌||◌, eqb, List, [], ◌∷◌, ◌++◌, map, length, get_or, sym, refl, ap, ◌∙◌, arith, lit<}
+use Rattle.std.proofs.Common.{◌≡◌, ℕ, ◌+◌, ◌<◌, ◌≤◌, min, true, false, List, map, length, get_or, sym, ap, ◌∙◌, arith, lit<}
 use mathlib.Core.Option.{Option, some, none}
 use native.Mathlib.Decide.{dec_lt}
 use lib.ListN.{get_or-eq_default}
-use Rattle.laws.specs.Choice.{pick}
 use Rattle.laws.specs.Lists.{first_at}
 use Rattle.laws.specs.Ring.{ring, slot}
 use Rattle.laws.proofs.Slots.{slot_below}

@@ -1,5 +1,5 @@
 -- From what settling an id leaves of a state to the answers of receipts and errors. Assumes nothing.
-use Rattle.std.proofs.Common.{◌≡◌, ℕ, ◌+◌, ◌<◌, Bool, true, false, List, ◌++◌, map, length, get_or, take, drop, ℤ, sym, refl, ap, ◌∙◌, subst}
+use Rattle.std.proofs.Common.{◌≡◌, ℕ, ◌+◌, Bool, true, false, List, ◌++◌, map, take, drop, ℤ, sym, refl, ap, ◌∙◌, subst}
 use mathlib.Core.Option.{Option, some, none}
 use Rattle.laws.specs.Lists.{first_at}
 use Rattle.laws.specs.Lists as lists
@@ -11,14 +11,14 @@ use Rattle.types.specs.Ids.{of_receipt}
 use Rattle.types.specs.declared.entry.OpSend.{OpSend}
 use Rattle.types.specs.declared.types.MessageId.{MessageId}
 use Rattle.types.specs.declared.types.MaybeMessageIdData.{MaybeMessageIdData}
-use Rattle.queue.specs.Queue.{Queue, Outcome, Answer, refused, done, refuse, with_pending, with_ids}
+use Rattle.queue.specs.Queue.{Queue, Outcome, done, refuse, with_pending, with_ids}
 use Rattle.queue.specs.Ids.{published}
-use Rattle.queue.specs.Settle.{bears, answerable, found, without, unmark, settled, settle, apply_receipt, apply_send_error}
+use Rattle.queue.specs.Settle.{bears, answerable, found, unmark, settle, apply_receipt, apply_send_error}
 use Rattle.plans.specs.Settle.{core_published}
 use Rattle.queue.specs.Told.{told_giving, Kept}
 use Rattle.plans.specs.declared.state.Core.{Core}
 use Rattle.producer.specs.View.{view}
-use Rattle.producer.specs.Settle.{key_of, settles_at, Settles}
+use Rattle.producer.specs.Settle.{settles_at, Settles}
 use Rattle.producer.specs.declared.settle.Settled.{Settled}
 use Rattle.producer.specs.declared.state.ProducerState.{ProducerState}
 use Rattle.producer.proofs.Scalars.{with_core}

@@ -1,5 +1,5 @@
 -- An entry leaves the pending ring: the first by moving the head on, another once the gap is closed. Assumes nothing.
-use Rattle.std.proofs.Common.{◌≡◌, ℕ, ◌+◌, ◌-◌, ◌<◌, min, true, false, eqb, List, length, drop, sym, refl, ap, ◌∙◌, arith, lit<, eq-eqb, ne_eqb}
+use Rattle.std.proofs.Common.{◌≡◌, ℕ, ◌-◌, ◌<◌, min, List, sym, refl, ap, ◌∙◌, arith, lit<, eq-eqb, ne_eqb}
 use Rattle.laws.specs.Lists.{without}
 use Rattle.laws.specs.Ring.{ring, slot}
 use Rattle.laws.proofs.Choice.{pick_true, pick_false}

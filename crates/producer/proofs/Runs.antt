@@ -1,16 +1,14 @@
 -- A run of the code has the view, the frames and the accepted messages of the run of definitions, by induction over its calls. Assumes nothing.
-use Rattle.std.proofs.Common.{◌≡◌, ℕ, List, [], ◌∷◌, ◌++◌, sym, refl, ap, ◌∙◌, subst}
+use Rattle.std.proofs.Common.{◌≡◌, ℕ, List, ◌++◌, sym, refl, ap, ◌∙◌, subst}
 use mathlib.Core.Option.{some}
-use Rattle.types.specs.declared.types.ProducerHandle.{ProducerHandle}
-use Rattle.queue.specs.Queue.{Queue, Answer, Outcome, new_queue}
+use Rattle.queue.specs.Queue.{Queue, Outcome, new_queue}
 use Rattle.queue.specs.Frame.{Frame}
 use Rattle.queue.specs.Message.{Message}
 use Rattle.queue.specs.Run.{Call, Gives, step, after, taken, accepted, frame_of, accepted_by, Waiting}
 use Rattle.queue.specs.Read.{read}
-use Rattle.queue.specs.Order.{Premises}
 use Rattle.queue.proofs.Order.{order_rule}
 use Rattle.producer.specs.View.{view}
-use Rattle.producer.specs.Runs.{Meets, Run, end, call, CodeInOrder}
+use Rattle.producer.specs.Runs.{Run, end, call, CodeInOrder}
 use Rattle.producer.specs.declared.state.ProducerState.{ProducerState}
 
 -- what the definitions say of a run from this queue

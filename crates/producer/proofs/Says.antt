@@ -1,7 +1,7 @@
 -- How a walk of a function with two `ensures` ends, and how it hears those of a callee. Assumes `Logic`.
 use Rattle.std.proofs.Common.{List, ◌∷◌}
 use seplogic.Ra.Ura.{Ura}
-use base.Logic.{SProp, ent, sep, emp, via, comm∗, mono_l, mono_r, emp∗}
+use base.Logic.{SProp, ent, sep, emp, via, comm∗, mono_l, emp∗}
 use types.Logic.{Logic}
 use contract.Monad.{fact, fact_i}
 use types.Kit.{Item, Goal, Seq, Step, step, prop, raw, ◌⊛◌, split, ◌$◌}

@@ -2,7 +2,7 @@
 use Rattle.std.proofs.Common.{◌≡◌, ℕ, Bool, true, false, leb, List, length, refl}
 use Rattle.laws.specs.Choice.{pick}
 use Rattle.types.specs.declared.settings.Setting.{Setting}
-use Rattle.queue.specs.Queue.{Queue, Outcome, done, refuse, with_settings}
+use Rattle.queue.specs.Queue.{Outcome, done, refuse, with_settings}
 use Rattle.queue.specs.Settings.{allowed, changed, set, set_name, name_from, with_name, close}
 use Rattle.queue.specs.Ids.{set_initial_sequence_id}
 use Rattle.queue.specs.Told.{told, Kept}

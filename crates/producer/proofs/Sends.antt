@@ -1,5 +1,5 @@
 -- A send: the stores of its plan make the queue of the definition, and its answer is the definition's. Each way is a run of pushes. Assumes nothing.
-use Rattle.std.proofs.Common.{◌≡◌, ℕ, ◌+◌, ◌*◌, ◌<◌, min, Bool, true, false, not, ◌&&◌, ltb, leb, length, pos, sym, refl, ap, ◌∙◌, subst, lit<}
+use Rattle.std.proofs.Common.{◌≡◌, ℕ, ◌+◌, ◌*◌, min, Bool, true, false, not, ◌&&◌, ltb, leb, length, pos, sym, refl, ap, ◌∙◌, subst, lit<}
 use Rattle.laws.specs.Choice.{pick}
 use Rattle.laws.specs.Numbers.{add_sat}
 use Rattle.laws.proofs.Choice.{pick_ind}
@@ -15,7 +15,7 @@ use Rattle.queue.specs.Queue.{Queue, Outcome, with_out}
 use Rattle.queue.specs.Batch.{at_least_one, grown, is_full, may_join, single_of}
 use Rattle.queue.specs.Send as send
 use Rattle.queue.specs.Told.{told_send}
-use Rattle.plans.specs.Delta.{counted_core, accepted, held}
+use Rattle.plans.specs.Delta.{counted_core, accepted}
 use Rattle.plans.specs.Batch.{flushed_if}
 use Rattle.plans.specs.Choose.{chosen, chosen_within}
 use Rattle.plans.specs.Send.{publish_of, frame_of, emitted, singled, joined, chunked, refused_large, joined_after, followed, plan_out, planned}

@@ -1,14 +1,14 @@
 -- Settling as document 01 tells it, entry by entry, is settling at the place that the search finds. Assumes nothing.
-use Rattle.std.proofs.Common.{◌≡◌, ℕ, zero, suc, ◌+◌, Bool, true, false, ◌&&◌, ◌||◌, eqb, List, [], ◌∷◌, ◌++◌, map, get_or, take, drop, sym, refl, ap, ◌∙◌, add-one}
+use Rattle.std.proofs.Common.{◌≡◌, ℕ, ◌+◌, Bool, true, false, ◌&&◌, ◌||◌, List, [], ◌∷◌, ◌++◌, map, get_or, take, drop, refl, ap, ◌∙◌, add-one}
 use mathlib.Core.Option.{Option, some, none}
 use Rattle.laws.specs.Choice.{pick}
 use Rattle.laws.specs.Lists.{first_at}
 use Rattle.laws.specs.Lists as lists
 use Rattle.types.specs.declared.entry.OpSend.{OpSend}
-use Rattle.queue.specs.Settle.{bears, answerable, found, without, unmark}
-use Rattle.upkeep.specs.Pending.{Key, wanted, to_found, first_if, located}
+use Rattle.queue.specs.Settle.{bears, answerable, found, without}
+use Rattle.upkeep.specs.Pending.{wanted, to_found, first_if, located}
 use Rattle.upkeep.specs.declared.pending.Found.{Found}
-use Rattle.upkeep.specs.declared.pending.Found.TheVariants.{At, Nothing}
+use Rattle.upkeep.specs.declared.pending.Found.TheVariants.{Nothing}
 use Rattle.producer.specs.Settle.{key_of}
 
 -- one place on

@@ -1,7 +1,7 @@
 -- A take, from the plan to the queue of the definitions: the frame that the plan answers is the first of the front record, and the
 -- state after it has the rest. Assumes nothing.
-use Rattle.std.proofs.Common.{◌≡◌, ℕ, zero, suc, ◌+◌, ◌-◌, ◌*◌, ◌%◌, ◌^◌, ◌<◌, ◌≤◌, min, Bool, true, false, ◌&&◌, eqb, ltb, leb, List, [], ◌∷◌, ◌++◌, length, get_or, take, drop, set, sym, refl, ap, ◌∙◌, subst, add-zero, zero-add, arith, lit<, length-drop, length-set, length-take-le, take_all, take_at, ltb-false, le-ltb, lt-ltb, eq-eqb, ne_eqb, leb-true}
-use mathlib.Core.Option.{Option, some, none}
+use Rattle.std.proofs.Common.{◌≡◌, ℕ, ◌+◌, ◌-◌, ◌*◌, ◌%◌, ◌^◌, ◌<◌, ◌≤◌, min, Bool, true, false, ◌&&◌, ltb, leb, List, [], ◌∷◌, ◌++◌, length, get_or, take, drop, set, sym, refl, ap, ◌∙◌, subst, add-zero, zero-add, arith, lit<, length-drop, length-set, length-take-le, take_all, take_at, ltb-false, le-ltb, lt-ltb, eq-eqb, ne_eqb, leb-true}
+use mathlib.Core.Option.{some, none}
 use native.Mathlib.Decide.{dec_lt}
 use Rattle.laws.specs.Choice.{pick}
 use Rattle.laws.specs.Numbers.{add_sat}
@@ -9,12 +9,11 @@ use Rattle.laws.specs.Ring.{ring, slot}
 use Rattle.laws.proofs.Choice.{pick_true, pick_false}
 use Rattle.laws.proofs.Rings.{length_ring, ring_set, ring_take, ring_drop, ring_drops, ring_pop, ring_none}
 use Rattle.laws.proofs.Slots.{slot_zero}
-use Rattle.types.specs.Values.{part_in, maybe_in, num_of}
+use Rattle.types.specs.Values.{maybe_in, num_of}
 use Rattle.types.specs.declared.answer.Outcome.{Outcome}
 use Rattle.types.specs.declared.answer.Outcome.TheVariants.{Done, Refused}
 use Rattle.types.specs.declared.error.ProducerError.TheVariants.{NoFrame, PartOutside, TooShort}
 use Rattle.types.specs.declared.frame.BatchFrame.{BatchFrame}
-use Rattle.types.specs.declared.frame.ChunkedMessageContext.{ChunkedMessageContext}
 use Rattle.types.specs.declared.frame.FrameRecord.{FrameRecord}
 use Rattle.types.specs.declared.frame.FrameKind.{FrameKind}
 use Rattle.types.specs.declared.frame.FrameKind.TheVariants.{Single, Batch, Chunked}
@@ -22,16 +21,16 @@ use Rattle.types.specs.declared.message.SingleMessage.{SingleMessage}
 use Rattle.types.specs.declared.outbound.OutboundFrame.{OutboundFrame}
 use Rattle.wire.specs.Batch.{batch_payload}
 use Rattle.wire.specs.Buffer.{Room, Puts}
-use Rattle.wire.specs.Length.{stopped, batch_length}
+use Rattle.wire.specs.Length.{stopped}
 use Rattle.wire.proofs.Lengths.{batch_length_lem}
-use Rattle.queue.specs.Queue.{Queue, Outgoing, Answer, refuse, with_out, done}
+use Rattle.queue.specs.Queue.{Queue, Answer, refuse, with_out, done}
 use Rattle.queue.specs.Frame.{Frame, message_frame, first_frame, frame_in, all_in}
 use Rattle.queue.specs.Take.{with_kind, next_chunk, rest_of, holds, taken, take_from, next_outbound_frame, written}
 use Rattle.queue.specs.Told.{Kept}
 use Rattle.queue.specs.Batch.{at_least_one}
 use Rattle.wire.specs.Uuid.{uuid_text}
 use Rattle.laws.proofs.Choice.{and_left, differ}
-use Rattle.frames.specs.Span.{borne, name_in, skip_of, piece_len, span_at, span_of, is_batch, held_count}
+use Rattle.frames.specs.Span.{borne, name_in, span_at, span_of, is_batch, held_count}
 use Rattle.frames.specs.Payload.{payload_of, Writable}
 use Rattle.frames.specs.Answer.{answer_of, is_done}
 use Rattle.frames.specs.Outbound.{present_if, frame_out}

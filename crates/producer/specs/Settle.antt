@@ -1,5 +1,5 @@
 -- What the steps of settling leave of a state.
-use Rattle.std.specs.Prelude.{◌≡◌, ℕ, ◌-◌, ◌<◌, min, List, map, length, slice_index_or}
+use Rattle.std.specs.Prelude.{◌≡◌, ℕ, ◌-◌, ◌<◌, min, map, length, slice_index_or}
 use Rattle.laws.specs.Lists.{without}
 use Rattle.laws.specs.Ring.{ring}
 use Rattle.types.specs.declared.answer.Outcome.TheVariants.{Done, Refused}

@@ -1,5 +1,5 @@
 -- What a state stands for: the queue of document 01. Every value of the struct is a state.
-use Rattle.std.specs.Prelude.{ℕ, Bool, not, List, [], ◌∷◌, ◌==◌}
+use Rattle.std.specs.Prelude.{ℕ, not, List, [], ◌∷◌, ◌==◌}
 use Rattle.laws.specs.Ring.{ring}
 use Rattle.queue.specs.Queue.{Queue}
 use Rattle.types.specs.declared.entry.OpSend.{OpSend}

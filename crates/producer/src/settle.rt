@@ -1,6 +1,7 @@
 // Receipts and errors (document 01, 'receipts, errors, snapshot, replay').
 ghost use Rattle.std.specs.Prelude.{◌≡◌, ◌<◌, min, map, slice_index_or};
-ghost use Rattle.upkeep.specs.Pending.{located};
+ghost use Rattle.laws.specs.Ring.{ring};
+ghost use Rattle.upkeep.specs.Pending.{keys, located};
 ghost use Rattle.laws.specs.Lists.{without};
 ghost use Rattle.queue.specs.Queue.{with_pending};
 ghost use Rattle.queue.specs.Settle.{apply_receipt, apply_send_error};
@@ -84,9 +85,9 @@ impl ProducerState {
         let c = self.core;
         let core = c.without_entry(place);
         if 0 < place {
-            let mut s = self.close_gap(place);
-            s.core = core;
-            s
+            self = self.close_gap(place);
+            self.core = core;
+            self
         } else {
             self.core = core;
             self
@@ -94,8 +95,8 @@ impl ProducerState {
     }
 
     // Where the first entry stands that bears the id, if the id is answerable.
-    fn place_of(self, id: u64) -> Found
-        ensures { result ≡ located id (map key_of (view self).pending) }
+    fn place_of(&self, id: u64) -> Found
+        ensures { result ≡ located id (ring 256 (keys self.now.pending_ids self.now.pending_marks) self.now.core.rings.pending_head self.now.core.rings.pending_len) }
     {
         let head = self.core.rings.pending_head;
         let len = self.core.rings.pending_len;
@@ -130,12 +131,12 @@ impl ProducerState {
         match place {
             Found::At(i) => {
                 let op = self.op_at(i);
-                let s = self.unmark_all(id);
-                let state = s.remove(i);
+                self = self.unmark_all(id);
+                self = self.remove(i);
                 Settled {
                     answer: Outcome::Done,
                     op: op,
-                    state: state,
+                    state: self,
                 }
             }
             Found::Nothing => {

@@ -1,11 +1,9 @@
 -- `cases::quote`: the parts lie in the store, and the buffer is as long as the bytes.
-use mathlib.Core.Path.{refl, subst, sym}
+use mathlib.Core.Path.{refl}
 use lib.Dec.{lit≤}
 use Rattle.wire.specs.Proto.{varint_by, varint, key, varint_field, bytes_field, be32}
 use Rattle.wire.specs.Single.{single}
-use Rattle.wire.specs.Buffer.{Room}
-use Rattle.wire.specs.Batch.{item, InStore}
-use borrow.Author.Rules.{rules}
+use Rattle.wire.specs.Batch.{item}
 use Rattle.cases.proofs.quote.Goals as goal
 
 pub put_item-requires : goal.put_item-requires

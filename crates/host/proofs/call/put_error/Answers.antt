@@ -1,5 +1,4 @@
 -- `host::call::put_error`: its writes one after the other.
-use Rattle.std.proofs.Common.{rules}
 use Rattle.script.proofs.Outputs.{next}
 use Rattle.host.proofs.call.put_error.Goals as goal
 

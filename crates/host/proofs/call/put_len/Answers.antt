@@ -1,5 +1,4 @@
 -- `host::call::put_len`: its writes one after the other.
-use Rattle.std.proofs.Common.{rules}
 use Rattle.script.proofs.Outputs.{next}
 use Rattle.host.proofs.call.put_len.Goals as goal
 

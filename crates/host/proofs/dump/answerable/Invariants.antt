@@ -1,5 +1,5 @@
 -- `host::dump::answerable`: a search in each turn.
-use Rattle.std.proofs.Common.{◌≡◌, ◌-◌, ◌<◌, min, rules}
+use Rattle.std.proofs.Common.{◌≡◌, ◌-◌, ◌<◌, min}
 use Rattle.host.proofs.dump.answerable.Given as goal
 
 abbrev pub invariant-loop-i : goal.invariant-loop-i

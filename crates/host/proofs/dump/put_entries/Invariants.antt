@@ -1,7 +1,6 @@
 -- `host::dump::put_entries`: an entry more in each turn.
-use Rattle.std.proofs.Common.{◌≡◌, ◌-◌, ◌<◌, min, rules}
+use Rattle.std.proofs.Common.{◌≡◌, ◌-◌, ◌<◌, min}
 use Rattle.script.specs.Output.{Wrote}
-use Rattle.script.proofs.Outputs.{nothing, next}
 use Rattle.host.proofs.dump.put_entries.Given as goal
 
 abbrev pub invariant-loop-i : goal.invariant-loop-i

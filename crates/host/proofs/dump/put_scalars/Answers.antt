@@ -1,5 +1,4 @@
 -- `host::dump::put_scalars`: its writes one after the other.
-use Rattle.std.proofs.Common.{rules}
 use Rattle.script.proofs.Outputs.{next}
 use Rattle.host.proofs.dump.put_scalars.Goals as goal
 

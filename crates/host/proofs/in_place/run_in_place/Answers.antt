@@ -1,9 +1,8 @@
 -- `host::in_place::run_in_place`: an operation in each turn; the place in the script goes up. A plan's places lie in their rings,
-use Rattle.std.proofs.Common.{◌-◌, length, ⊎_elim, arith, rules}
-use Rattle.script.specs.Output.{Wrote}
-use Rattle.script.proofs.Outputs.{nothing, next}
-use Rattle.host.proofs.Framing.{completed, laid_inside}
-use Rattle.host.proofs.Loops.{inside, less, there, Keys, keyed, alike, kept, marked}
+use Rattle.std.proofs.Common.{arith}
+use Rattle.script.proofs.Outputs.{next}
+use Rattle.host.proofs.Framing.{completed}
+use Rattle.host.proofs.Loops.{there, Keys, keyed, alike, kept}
 use Rattle.host.proofs.in_place.run_in_place.Goals as goal
 use Rattle.host.proofs.in_place.run_in_place.Goals.{then-d, else-d, then-d-2, else-d-2, then-d-3, else-d-3, then-d-4, else-d-4, then-repeated+else-loop-k-test, else-repeated, then-i-gt0+else-loop-j-then-i-gt0-test, else-i-gt0}
 

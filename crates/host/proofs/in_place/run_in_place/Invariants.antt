@@ -1,9 +1,7 @@
 -- `host::in_place::run_in_place`: an operation in each turn; the place in the script goes up. A plan's places lie in their rings,
-use Rattle.std.proofs.Common.{◌-◌, length, ⊎_elim, arith, rules}
+use Rattle.std.proofs.Common.{◌-◌, length}
 use Rattle.script.specs.Output.{Wrote}
-use Rattle.script.proofs.Outputs.{nothing, next}
-use Rattle.host.proofs.Framing.{completed, laid_inside}
-use Rattle.host.proofs.Loops.{inside, less, there, Keys, keyed, alike, kept, marked}
+use Rattle.host.proofs.Loops.{Keys}
 use Rattle.host.proofs.in_place.run_in_place.Given as goal
 
 abbrev pub invariant-loop-i : goal.invariant-loop-i

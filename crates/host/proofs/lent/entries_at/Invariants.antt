@@ -1,5 +1,5 @@
 -- `host::lent::entries_at`: an entry more in each turn.
-use Rattle.std.proofs.Common.{◌-◌, ◌≤◌, rules}
+use Rattle.std.proofs.Common.{◌-◌, ◌≤◌}
 use Rattle.host.proofs.lent.entries_at.Given as goal
 
 abbrev pub invariant-loop-i : goal.invariant-loop-i

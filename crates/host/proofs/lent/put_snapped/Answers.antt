@@ -1,5 +1,4 @@
 -- `host::lent::put_snapped`: its writes one after the other.
-use Rattle.std.proofs.Common.{rules}
 use Rattle.script.proofs.Outputs.{next}
 use Rattle.host.proofs.lent.put_snapped.Goals as goal
 

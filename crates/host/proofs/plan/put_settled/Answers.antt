@@ -1,5 +1,4 @@
 -- `host::plan::put_settled`: its writes one after the other.
-use Rattle.std.proofs.Common.{rules}
 use Rattle.script.proofs.Outputs.{next}
 use Rattle.host.proofs.plan.put_settled.Goals as goal
 

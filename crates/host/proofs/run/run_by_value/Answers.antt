@@ -1,8 +1,5 @@
 -- `host::run::run_by_value`: an operation in each turn; the place in the script goes up.
-use Rattle.std.proofs.Common.{◌-◌, length, rules}
-use Rattle.script.specs.Output.{Wrote}
-use Rattle.script.proofs.Outputs.{nothing, next}
-use Rattle.host.proofs.Loops.{inside, less}
+use Rattle.script.proofs.Outputs.{next}
 use Rattle.host.proofs.run.run_by_value.Goals as goal
 
 pub loop-store-preserved-then-is_lent : goal.loop-store-preserved-then-is_lent

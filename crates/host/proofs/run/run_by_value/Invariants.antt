@@ -1,8 +1,6 @@
 -- `host::run::run_by_value`: an operation in each turn; the place in the script goes up.
-use Rattle.std.proofs.Common.{◌-◌, length, rules}
+use Rattle.std.proofs.Common.{◌-◌, length}
 use Rattle.script.specs.Output.{Wrote}
-use Rattle.script.proofs.Outputs.{nothing, next}
-use Rattle.host.proofs.Loops.{inside, less}
 use Rattle.host.proofs.run.run_by_value.Given as goal
 
 abbrev pub invariant-loop-store : goal.invariant-loop-store

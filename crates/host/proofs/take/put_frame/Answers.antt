@@ -1,5 +1,4 @@
 -- `host::take::put_frame`: a head before the payload that stands, and the rest behind.
-use Rattle.std.proofs.Common.{rules}
 use Rattle.script.proofs.Outputs.{next}
 use Rattle.host.proofs.Framing.{framed}
 use Rattle.host.proofs.take.put_frame.Goals as goal

@@ -1,5 +1,4 @@
 -- `host::take::put_frame_head`: its writes one after the other.
-use Rattle.std.proofs.Common.{rules}
 use Rattle.script.proofs.Outputs.{next}
 use Rattle.host.proofs.take.put_frame_head.Goals as goal
 

@@ -1,5 +1,5 @@
 -- `host::take::put_taken`: around a payload that was taken, or from the start.
-use Rattle.std.proofs.Common.{◌≡◌, ◌-◌, sym, ap, ◌∙◌, rules}
+use Rattle.std.proofs.Common.{◌≡◌, ◌-◌, ap}
 use Rattle.types.specs.declared.answer.Outcome.{Outcome}
 use Rattle.host.specs.Framing.{taken}
 use Rattle.host.proofs.Framing.{none_stands}

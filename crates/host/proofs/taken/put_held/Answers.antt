@@ -1,7 +1,7 @@
 -- `host::taken::put_held`: what was tested is what the item's writer asks for.
-use Rattle.std.proofs.Common.{sym, ◌∙◌, arith, rules}
+use Rattle.std.proofs.Common.{sym, ◌∙◌, arith}
 use Rattle.laws.proofs.Choice.{and_left, and_right}
-use Rattle.host.proofs.Takings.{held_room, laid}
+use Rattle.host.proofs.Takings.{held_room}
 use Rattle.host.proofs.taken.put_held.Goals as goal
 
 pub put_item-requires : goal.put_item-requires

@@ -1,6 +1,6 @@
 -- `host::taken::take_message`: the payload is written to a part of the output, and the answer around it.
-use Rattle.std.proofs.Common.{◌-◌, arith, rules}
-use Rattle.host.proofs.Takings.{message, goes, took}
+use Rattle.std.proofs.Common.{◌-◌}
+use Rattle.host.proofs.Takings.{goes, took}
 use Rattle.host.proofs.taken.take_message.Goals as goal
 
 pub returns : goal.returns

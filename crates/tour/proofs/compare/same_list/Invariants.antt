@@ -1,6 +1,5 @@
 -- `tour::compare::same_list`: sixteen turns.
 use Prim.Native.Nat.{◌-◌, ◌≤◌}
-use borrow.Author.Rules.{rules}
 use Rattle.tour.proofs.compare.same_list.Given as goal
 
 abbrev pub invariant-loop-i : goal.invariant-loop-i

@@ -1,6 +1,5 @@
 -- `tour::fields::varint`: seven bits in each turn.
 use Prim.Native.Nat.{◌-◌}
-use borrow.Author.Rules.{rules}
 use Rattle.tour.proofs.fields.varint.Given as goal
 
 abbrev pub invariant-loop-shift : goal.invariant-loop-shift

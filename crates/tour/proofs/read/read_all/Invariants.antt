@@ -1,6 +1,5 @@
 -- `tour::read::read_all`: sixteen turns.
 use Prim.Native.Nat.{◌-◌, ◌≤◌}
-use borrow.Author.Rules.{rules}
 use Rattle.tour.proofs.read.read_all.Given as goal
 
 abbrev pub invariant-loop-i : goal.invariant-loop-i

@@ -1,6 +1,5 @@
 -- `tour::send::send_all`: a message in each turn.
 use Prim.Native.Nat.{◌-◌, ◌≤◌}
-use borrow.Author.Rules.{rules}
 use Rattle.tour.proofs.send.send_all.Given as goal
 
 abbrev pub invariant-loop-id : goal.invariant-loop-id

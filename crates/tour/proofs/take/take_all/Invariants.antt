@@ -1,6 +1,5 @@
 -- `tour::take::take_all`: a take in each turn.
 use Prim.Native.Nat.{◌-◌, ◌≤◌}
-use borrow.Author.Rules.{rules}
 use Rattle.tour.proofs.take.take_all.Given as goal
 
 abbrev pub invariant-loop-i : goal.invariant-loop-i

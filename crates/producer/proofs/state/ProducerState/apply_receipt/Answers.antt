@@ -1,5 +1,5 @@
 -- `ProducerState::apply_receipt`: what settling leaves, with the published number.
-use Rattle.std.proofs.Common.{sym, subst, rules}
+use Rattle.std.proofs.Common.{sym, subst}
 use Rattle.plans.specs.Settle.{core_published}
 use Rattle.plans.specs.declared.state.Core.{Core}
 use Rattle.producer.proofs.Receipts.{Received, received}

@@ -9,6 +9,6 @@ returns c =
     let both =
     let a = c.args in
     let t = c.settle-settled.result in
-    subst (λ (z : ℤ). Failed a.err.sequence_id.0 a.err.error a.self t z) (sym (to_z-of_z w32 a.err.error (record { sfits = c.struct_told-1.given.1.1.0.1 })))
+    subst (λ (z : ℤ). Failed a.err.sequence_id.0 a.err.error a.self t z) (sym (to_z-of_z w32 a.err.error (search rules)))
     (failed a.err.sequence_id.0 a.err.error a.self t c.settle-settled.ensures) in
     record { result_value = both.0; kept = both.1 }

@@ -1,5 +1,5 @@
 -- `ProducerState::batch_deadline_elapsed`: the deadline is that of the scalars.
-use Rattle.std.proofs.Common.{ap, ◌∙◌, rules}
+use Rattle.std.proofs.Common.{ap, ◌∙◌}
 use Rattle.upkeep.specs.Deadline.{has_elapsed}
 use Rattle.producer.proofs.Queries.{batch_elapsed_lem}
 use Rattle.producer.proofs.state.ProducerState.batch_deadline_elapsed.Goals as goal

@@ -1,5 +1,5 @@
 -- `ProducerState::can_add_to_batch`: the scalars are those of the queue.
-use Rattle.std.proofs.Common.{ap, ◌∙◌, w32, rules}
+use Rattle.std.proofs.Common.{ap, ◌∙◌, w32}
 use mir.ValLaws.{to_z-of_z}
 use Rattle.queue.specs.Batch.{can_add_to_batch}
 use Rattle.queue.specs.Queries.{may_add}

@@ -1,5 +1,5 @@
 -- `ProducerState::close`: the scalars are those planned.
-use Rattle.std.proofs.Common.{◌≡◌, ap, ◌∙◌, rules}
+use Rattle.std.proofs.Common.{ap, ◌∙◌}
 use Rattle.plans.specs.declared.state.Core.{Core}
 use Rattle.producer.specs.View.{view}
 use Rattle.producer.proofs.Scalars.{with_core, closes}

@@ -1,6 +1,6 @@
 use Rattle.producer.proofs.Full.{full}
-use Rattle.producer.proofs.Gap.{Moving, moving_start, moving_step, moving_end}
-use Rattle.std.proofs.Common.{◌-◌, arith, rules}
+use Rattle.producer.proofs.Gap.{moving_start, moving_step, moving_end}
+use Rattle.std.proofs.Common.{arith}
 use Rattle.producer.proofs.state.ProducerState.close_gap.Goals as goal
 
 pub loop-i-init : goal.loop-i-init

@@ -1,6 +1,5 @@
-use Rattle.producer.proofs.Full.{full}
-use Rattle.producer.proofs.Gap.{Moving, moving_start, moving_step, moving_end}
-use Rattle.std.proofs.Common.{◌-◌, arith, rules}
+use Rattle.producer.proofs.Gap.{Moving}
+use Rattle.std.proofs.Common.{◌-◌}
 use Rattle.producer.proofs.state.ProducerState.close_gap.Given as goal
 
 abbrev pub invariant-loop-i : goal.invariant-loop-i

@@ -1,7 +1,7 @@
 -- `ProducerState::entries`: the array up to the count is the list of entries.
-use Rattle.std.proofs.Common.{◌-◌, refl, arith, rules}
+use Rattle.std.proofs.Common.{arith}
 use Rattle.producer.proofs.Full.{Full}
-use Rattle.producer.proofs.Listed.{Listing, listing_start, listing_step, listing_all}
+use Rattle.producer.proofs.Listed.{listing_step, listing_all}
 use Rattle.producer.proofs.state.ProducerState.entries.Goals as goal
 
 pub loop-i-preserved : goal.loop-i-preserved

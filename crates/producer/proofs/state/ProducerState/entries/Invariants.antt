@@ -1,7 +1,6 @@
 -- `ProducerState::entries`: the array up to the count is the list of entries.
-use Rattle.std.proofs.Common.{◌-◌, refl, arith, rules}
-use Rattle.producer.proofs.Full.{full}
-use Rattle.producer.proofs.Listed.{Listing, listing_start, listing_step, listing_end}
+use Rattle.std.proofs.Common.{◌-◌}
+use Rattle.producer.proofs.Listed.{Listing}
 use Rattle.producer.proofs.state.ProducerState.entries.Given as goal
 
 abbrev pub invariant-loop-i : goal.invariant-loop-i

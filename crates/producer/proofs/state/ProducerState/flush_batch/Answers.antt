@@ -1,14 +1,13 @@
 -- `ProducerState::flush_batch`: what is planned is stored, and the plan's store makes the queue of the definition.
-use Rattle.std.proofs.Common.{◌≡◌, ℕ, ◌<◌, Bool, sym, subst, arith, rules}
+use Rattle.std.proofs.Common.{◌≡◌, ℕ, Bool, sym, subst}
 use Rattle.queue.specs.Batch.{flush_batch}
 use Rattle.plans.specs.Batch.{flush_planned}
-use Rattle.plans.specs.declared.state.Core.{Core}
 use Rattle.plans.specs.declared.delta.FlushDelta.{FlushDelta}
 use Rattle.producer.specs.View.{view}
 use Rattle.producer.specs.Apply.{store_core, frame_if}
 use Rattle.producer.specs.declared.state.ProducerState.{ProducerState}
 use Rattle.producer.proofs.Full.{Full, full}
-use Rattle.producer.proofs.Flushes.{Flushes, stored, plan_flushes, plan_flush_place}
+use Rattle.producer.proofs.Flushes.{Flushes, stored, plan_flushes}
 use Rattle.producer.proofs.state.ProducerState.flush_batch.Goals as goal
 
 -- where the store is made and where it is not

@@ -1,6 +1,5 @@
 -- `ProducerState::new`: its scalars are those of a new producer.
 use Rattle.producer.proofs.Fresh.{fresh}
-use Rattle.std.proofs.Common.{rules}
 use Rattle.producer.proofs.state.ProducerState.new.Goals as goal
 
 pub returns : goal.returns

@@ -1,5 +1,5 @@
 -- `ProducerState::next_batch_deadline`: that of the scalars.
-use Rattle.std.proofs.Common.{ap, ◌∙◌, rules}
+use Rattle.std.proofs.Common.{ap, ◌∙◌}
 use Rattle.types.specs.Values.{num_of}
 use Rattle.producer.proofs.Queries.{batch_deadline_lem}
 use Rattle.producer.proofs.state.ProducerState.next_batch_deadline.Goals as goal

@@ -1,5 +1,5 @@
 -- `ProducerState::next_outbound_frame`: what is answered, written and stored is what the plan says.
-use Rattle.std.proofs.Common.{◌≡◌, ℕ, ◌^◌, ◌<◌, ◌≤◌, length, sym, subst, arith, rules}
+use Rattle.std.proofs.Common.{ℕ, ◌^◌, ◌<◌, ◌≤◌, length, sym, subst, arith}
 use Rattle.producer.proofs.Full.{full}
 use Rattle.producer.proofs.Takes.{front_of, count_small, takes_writable, takes_done, takes_refused}
 use Rattle.producer.proofs.state.ProducerState.next_outbound_frame.Goals as goal

@@ -1,5 +1,5 @@
 -- `ProducerState::next_send_deadline`: the entry at the head is the front one.
-use Rattle.std.proofs.Common.{ap, ◌∙◌, rules}
+use Rattle.std.proofs.Common.{ap, ◌∙◌}
 use Rattle.types.specs.Values.{num_of}
 use Rattle.producer.proofs.Full.{full}
 use Rattle.producer.proofs.Queries.{send_deadline_lem}

@@ -1,7 +1,6 @@
 -- `ProducerState::op_at`: the three arrays at a slot are the entry there.
 use Rattle.producer.proofs.Full.{Full}
 use Rattle.producer.proofs.Locate.{entry_there}
-use Rattle.std.proofs.Common.{rules}
 use Rattle.producer.proofs.state.ProducerState.op_at.Goals as goal
 
 pub returns : goal.returns

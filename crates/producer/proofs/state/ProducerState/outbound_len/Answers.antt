@@ -1,6 +1,5 @@
 -- `ProducerState::outbound_len`: it is stored.
 use Rattle.producer.specs.View.{view}
-use Rattle.std.proofs.Common.{rules}
 use Rattle.producer.proofs.state.ProducerState.outbound_len.Goals as goal
 
 pub returns : goal.returns

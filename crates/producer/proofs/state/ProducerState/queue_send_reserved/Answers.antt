@@ -1,5 +1,5 @@
 -- `ProducerState::queue_send_reserved`: what is planned is stored, and the plan's stores make the queue of the definition.
-use Rattle.std.proofs.Common.{◌≡◌, ℕ, List, length, sym, subst, rules}
+use Rattle.std.proofs.Common.{◌≡◌, ℕ, List, length, sym, subst}
 use Rattle.types.specs.declared.memory_limit.MemoryReservation.{MemoryReservation}
 use Rattle.types.specs.declared.message.OutgoingMessage.{OutgoingMessage}
 use Rattle.queue.specs.Queue.{Outcome}

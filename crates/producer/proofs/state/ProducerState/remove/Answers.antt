@@ -1,5 +1,5 @@
 -- `ProducerState::remove`: the head moves on, or the gap is closed.
-use Rattle.std.proofs.Common.{◌≡◌, ap, ◌∙◌, arith, rules}
+use Rattle.std.proofs.Common.{ap, ◌∙◌, arith}
 use Rattle.plans.specs.declared.state.Core.{Core}
 use Rattle.producer.specs.View.{view}
 use Rattle.producer.proofs.Full.{full}
@@ -10,9 +10,9 @@ use Rattle.producer.proofs.state.ProducerState.remove.Goals as goal
 pub returns-then-place-gt0 : goal.returns-then-place-gt0
 returns-then-place-gt0 c =
     let a = c.args in
-    let t = c.close_gap-s.result in
+    let t = c.close_gap-self.result in
     ap (λ (k : Core). view (with_core k t)) c.without_entry-core.ensures
-    ∙ removed_later a.self a.place t (λ z. omega arith) c.close_gap-s.ensures
+    ∙ removed_later a.self a.place t (λ z. omega arith) c.close_gap-self.ensures
 
 pub returns-else-place-gt0 : goal.returns-else-place-gt0
 returns-else-place-gt0 c =

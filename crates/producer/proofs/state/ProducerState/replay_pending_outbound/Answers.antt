@@ -1,5 +1,5 @@
 -- `ProducerState::replay_pending_outbound`: the entries found are the definition's, and their frames go to the front unless 4 refuses.
-use Rattle.std.proofs.Common.{◌≡◌, ℕ, List, take, ap, ◌∙◌, rules}
+use Rattle.std.proofs.Common.{ℕ, List, take, ap, ◌∙◌}
 use Rattle.types.specs.declared.entry.OpSend.{OpSend}
 use Rattle.plans.specs.Replay.{replay_count}
 use Rattle.producer.proofs.Replays.{found, counts, counts_not}

@@ -1,5 +1,5 @@
 -- `ProducerState::replay_snapshots`: what is loaded of the table settles the answer.
-use Rattle.std.proofs.Common.{◌≡◌, ◌∙◌}
+use Rattle.std.proofs.Common.{◌∙◌}
 use Rattle.producer.specs.View.{view}
 use Rattle.producer.proofs.Loads.{by_loaded}
 use Rattle.producer.proofs.state.ProducerState.replay_snapshots.Goals as goal

@@ -1,5 +1,5 @@
 -- `ProducerState::replayed`: marks, entries and frames are stored one after the other, unless 12, 7 or 4 refuses.
-use Rattle.std.proofs.Common.{◌≡◌, ℕ, min, map, length, take, sym, ap, ◌∙◌, arith, rules}
+use Rattle.std.proofs.Common.{◌≡◌, ℕ, map, length, take, ap, ◌∙◌, arith}
 use Rattle.laws.specs.Lists.{front_all}
 use Rattle.laws.specs.Numbers.{add_sat}
 use Rattle.queue.specs.Queue.{Queue, with_out, with_pending}

@@ -1,5 +1,5 @@
 -- `ProducerState::set`: the scalars and the answer are those planned.
-use Rattle.std.proofs.Common.{sym, subst, rules}
+use Rattle.std.proofs.Common.{sym, subst}
 use Rattle.plans.specs.declared.settings.SetPlan.{SetPlan}
 use Rattle.queue.specs.Settings.{set}
 use Rattle.producer.specs.View.{view}

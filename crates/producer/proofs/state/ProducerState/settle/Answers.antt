@@ -1,16 +1,17 @@
 -- `ProducerState::settle`: the place is that of the definitions, and the steps leave the entries without it.
-use Rattle.std.proofs.Common.{◌≡◌, ℕ, ◌<◌, min, map, length, sym, refl, ap, ◌∙◌, subst, arith, rules}
+use Rattle.std.proofs.Common.{◌≡◌, ℕ, ◌<◌, min, map, length, sym, refl, ap, ◌∙◌, subst, arith}
 use lib.ListN.{length-map}
 use Rattle.laws.specs.Lists.{without}
+use Rattle.laws.specs.Ring.{ring}
 use Rattle.queue.specs.Queue.{Queue, with_pending}
-use Rattle.upkeep.specs.Pending.{located}
+use Rattle.upkeep.specs.Pending.{keys, located}
 use Rattle.upkeep.specs.declared.pending.Found.{Found}
 use Rattle.upkeep.specs.declared.pending.Found.TheVariants.{At}
 use Rattle.producer.specs.View.{view}
 use Rattle.producer.specs.Settle.{key_of, settles_at}
 use Rattle.producer.specs.declared.state.ProducerState.{ProducerState}
 use Rattle.producer.proofs.Full.{Good, full}
-use Rattle.producer.proofs.Locate.{located_below, length_view, unmarked_view}
+use Rattle.producer.proofs.Locate.{keys_view, located_below, length_view, unmarked_view}
 use Rattle.producer.proofs.state.ProducerState.settle.Goals as goal
 
 -- a place that was found, against each of the lengths in question
@@ -26,20 +27,27 @@ in_range s g id r e i at =
     let m : length (view s).pending ≡ min s.core.rings.pending_len 256 = length_view s (full s g) in
     record { listed = omega arith; entry = omega arith; small = omega arith }
 
-pub op_at-op-requires : goal.op_at-op-requires
-op_at-op-requires c = (in_range c.args.self c.well_formed.0 c.args.id c.place_of-place.result c.place_of-place.ensures c.in-At.i c.in-At.is).small
+-- what is searched are the keys of the pending entries
+placed : (s : ProducerState) → Good s → (id : ℕ) (r : Found) → r ≡ located id (ring 256 (keys s.pending_ids s.pending_marks) s.core.rings.pending_head s.core.rings.pending_len)
+    → r ≡ located id (map key_of (view s).pending)
+placed s g id r e = e ∙ ap (located id) (sym (keys_view s (full s g)))
 
-pub remove-state-requires : goal.remove-state-requires
-remove-state-requires c =
+pub op_at-op-requires : goal.op_at-op-requires
+op_at-op-requires c =
+    let s = c.args.self in
+    (in_range s c.well_formed.0 c.args.id c.place_of-place.result (placed s c.well_formed.0 c.args.id _ c.place_of-place.ensures) c.in-At.i c.in-At.is).small
+
+pub remove-self-requires : goal.remove-self-requires
+remove-self-requires c =
     let a = c.args in
-    rw c.unmark_all-s.ensures
-    (in_range a.self c.well_formed.0 a.id _ c.place_of-place.ensures _ c.in-At.is).entry
+    rw c.unmark_all-self.ensures
+    (in_range a.self c.well_formed.0 a.id _ (placed a.self c.well_formed.0 a.id _ c.place_of-place.ensures) _ c.in-At.is).entry
 
 pub returns-in-At : goal.returns-in-At
 returns-in-At c =
     let a = c.args in
     let s = a.self in
-    let e = c.place_of-place.ensures in
+    let e = placed s c.well_formed.0 a.id _ c.place_of-place.ensures in
     let i = c.in-At.i in
     let at = c.in-At.is in
     let b = in_range s c.well_formed.0 a.id _ e i at in
@@ -47,5 +55,11 @@ returns-in-At c =
       b.listed,
       refl,
       c.op_at-op.ensures,
-      c.remove-state.ensures ∙ ap (λ (q : Queue). with_pending (without q.pending i) q) (ap view c.unmark_all-s.ensures ∙ unmarked_view a.id s),
+      c.remove-self.ensures ∙ ap (λ (q : Queue). with_pending (without q.pending i) q) (ap view c.unmark_all-self.ensures ∙ unmarked_view a.id s),
     )
+
+pub returns-in-Nothing : goal.returns-in-Nothing
+returns-in-Nothing c =
+    let a = c.args in
+    let s = a.self in
+    subst (settles_at a.id s _) (sym c.in-Nothing.is ∙ placed s c.well_formed.0 a.id _ c.place_of-place.ensures) (refl, refl)

@@ -1,5 +1,5 @@
 -- `ProducerState::stats`: the pending entries are as many as the ring's length says.
-use Rattle.std.proofs.Common.{sym, ◌∙◌, rules}
+use Rattle.std.proofs.Common.{sym, ◌∙◌}
 use Rattle.producer.specs.View.{view}
 use Rattle.producer.proofs.Full.{full}
 use Rattle.producer.proofs.Locate.{length_view}

@@ -1,7 +1,7 @@
 -- `ProducerState::waiting_ids`: the array up to the count is the list of the frames' ids.
-use Rattle.std.proofs.Common.{◌≡◌, ◌-◌, refl, arith, rules}
+use Rattle.std.proofs.Common.{arith}
 use Rattle.producer.proofs.Full.{Full}
-use Rattle.producer.proofs.Borne.{Naming, naming_start, naming_step, naming_all}
+use Rattle.producer.proofs.Borne.{naming_step, naming_all}
 use Rattle.producer.proofs.state.ProducerState.waiting_ids.Goals as goal
 
 pub loop-i-preserved : goal.loop-i-preserved

@@ -1,7 +1,6 @@
 -- `ProducerState::waiting_ids`: the array up to the count is the list of the frames' ids.
-use Rattle.std.proofs.Common.{◌≡◌, ◌-◌, refl, arith, rules}
-use Rattle.producer.proofs.Full.{full}
-use Rattle.producer.proofs.Borne.{Naming, naming_start, naming_step, naming_end}
+use Rattle.std.proofs.Common.{◌-◌}
+use Rattle.producer.proofs.Borne.{Naming}
 use Rattle.producer.proofs.state.ProducerState.waiting_ids.Given as goal
 
 abbrev pub invariant-loop-i : goal.invariant-loop-i

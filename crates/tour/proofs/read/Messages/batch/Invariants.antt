@@ -1,6 +1,5 @@
 -- `tour::read::Messages::batch`: an item in each turn.
 use Prim.Native.Nat.{◌-◌, ◌≤◌}
-use borrow.Author.Rules.{rules}
 use Rattle.tour.proofs.read.Messages.batch.Given as goal
 
 abbrev pub invariant-loop-i : goal.invariant-loop-i
