@@ -15,8 +15,8 @@ ghost use Rattle.script.specs.Output.{Wrote};
 
 use crate::run::run_script;
 
-#[unsafe(no_mangle)]
-pub extern "C" fn tevrulig_run(script: &[u8], output: &mut [u8]) -> usize
+// Crate `host_c` exports it for C and Rust.
+pub fn tevrulig_run(script: &[u8], output: &mut [u8]) -> usize
     ensures { Wrote 0 output.old output.new result }
 {
     run_script(script, output)
