@@ -1,4 +1,4 @@
-// The send queue of a producer. Each operation is planned on the scalars (crate core) and applied to the rings.
+// The send queue of a producer. Each operation is planned on the scalars (crate plans) and applied to the rings.
 #![tactic(auto)]
 
 pub mod apply;
