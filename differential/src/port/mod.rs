@@ -13,7 +13,7 @@ use campaign::{Campaign, Drives};
 use crate::drive::Drive;
 
 unsafe extern "C" {
-    /// `tevrulig_run(script, output)` of the crate `host`: each slice is a pointer and a length.
+    /// `tevrulig_run(script, output)`, exported by the crate `host_c`: each slice is a pointer and a length.
     fn tevrulig_run(
         script: *const u8,
         script_length: usize,
