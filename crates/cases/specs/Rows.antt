@@ -1,6 +1,5 @@
 -- The cases that document 01 marks with a star: what the definitions compute, and what the document says.
-use Rattle.std.specs.Prelude.{ℕ, zero, suc, ◌+◌, ◌-◌, ◌^◌, List, [], ◌∷◌, length, ℤ, pos, negsuc}
-use Rattle.std.proofs.Math.Option.{Option, some, none}
+use Rattle.std.specs.Prelude.{ℕ, zero, suc, ◌+◌, ◌-◌, ◌^◌, List, [], ◌∷◌, length, ℤ, pos, negsuc, None, Option, Some}
 use Rattle.types.specs.Time.{deadline_with_clamp}
 use Rattle.types.specs.Ids.{of_receipt, before_next}
 use Rattle.types.specs.Empty.{empty_name}
@@ -15,8 +14,6 @@ use Rattle.wire.specs.Batch.{batch_payload}
 use Rattle.queue.specs.Batch.{no_message, no_uuid, single_of}
 use Rattle.queue.specs.Send.{chunk_size, total_chunks}
 use Rattle.queue.specs.Frame.{Frame, batch_frame, chunk_frame, chunk_part}
-use Rattle.types.specs.declared.optional.MaybeI32.TheVariants as i32
-use Rattle.types.specs.declared.types.MaybeMessageIdData.TheVariants as receipt
 
 pub data Value : Type 0 where
   number : ℕ → Value
@@ -117,11 +114,11 @@ rows =
     ∷ row
     (message_id
     (of_receipt
-    (receipt.Present
-    (record { ledger_id = 7; entry_id = 9; partition = i32.Absent; batch_index = i32.Absent; batch_size = i32.Absent }))))
+    (Some
+    (record { ledger_id = 7; entry_id = 9; partition = None; batch_index = None; batch_size = None }))))
     (id 7 9 minus_one minus_one minus_one)
     -- I2
-    ∷ row (message_id (of_receipt receipt.Absent)) (id 0 0 minus_one minus_one (pos 0))
+    ∷ row (message_id (of_receipt None)) (id 0 0 minus_one minus_one (pos 0))
     -- S1
     ∷ row (signed (before_next 1)) (signed (pos 0))
     -- S2: -2^63
@@ -130,14 +127,14 @@ rows =
     ∷ row (signed (before_next (2 ^ 64 - 1))) (signed (negsuc 1))
     -- B1: one message `quote`; its bytes, and the size in its frame's metadata
     ∷ row (bytes (batch_payload quote (quoted ∷ []))) (bytes (0x00 ∷ 0x00 ∷ 0x00 ∷ 0x02 ∷ 0x18 ∷ 0x05 ∷ quote))
-    ∷ row (optional (batch_of 0 0 (quoted ∷ [])).metadata.uncompressed_size) (optional (some 5))
+    ∷ row (optional (batch_of 0 0 (quoted ∷ [])).metadata.uncompressed_size) (optional (Some 5))
     -- B2: no highest id
-    ∷ row (optional (batch_of (2 ^ 64 - 1) 0 []).metadata.highest_sequence_id) (optional none)
+    ∷ row (optional (batch_of (2 ^ 64 - 1) 0 []).metadata.highest_sequence_id) (optional None)
     -- C1
     ∷ row (lengths (chunk_lengths 4096 4097)) (lengths (4096 ∷ 1 ∷ []))
     -- C2
     ∷ row (lengths (chunk_lengths 4097 4098)) (lengths (3073 ∷ 1025 ∷ []))
     -- C3: one chunk, empty, and the total size of its frame
     ∷ row (lengths (chunk_lengths 0 3)) (lengths (0 ∷ []))
-    ∷ row (optional (chunk_of 0 3 0).metadata.total_chunk_msg_size) (optional (some 3))
+    ∷ row (optional (chunk_of 0 3 0).metadata.total_chunk_msg_size) (optional (Some 3))
     ∷ []

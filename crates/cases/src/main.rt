@@ -11,9 +11,8 @@ ghost use Rattle.cases.specs.Messages.{message_of};
 use print::{bytes, end, label, number, signed, signed32};
 use std::io;
 use types::error::ProducerError;
-use types::message::{MaybePart, Part, SingleMessage};
-use types::optional::{MaybeBool, MaybeI32, MaybeU64};
-use types::types::{MaybeMessageIdData, MessageId, MessageIdData};
+use types::message::{Part, SingleMessage};
+use types::types::{MessageId, MessageIdData};
 use wire::batch::put_item;
 use wire::single::put_single;
 
@@ -32,7 +31,7 @@ fn before_next(rt: &impl Print, name: &[u8], next: u64) -> io::Result<()> {
     end(rt)
 }
 
-fn message_id(rt: &impl Print, name: &[u8], id: MaybeMessageIdData) -> io::Result<()> {
+fn message_id(rt: &impl Print, name: &[u8], id: Option<MessageIdData>) -> io::Result<()> {
     let m = MessageId::of_receipt(id);
     label(rt, name)?;
     number(rt, m.ledger_id)?;
@@ -44,23 +43,23 @@ fn message_id(rt: &impl Print, name: &[u8], id: MaybeMessageIdData) -> io::Resul
 }
 
 // A message of the batch: the first `len` bytes of the store, with a partition key.
-fn message(len: usize, key: MaybePart, time: MaybeU64) -> SingleMessage
+fn message(len: usize, key: Option<Part>, time: Option<u64>) -> SingleMessage
     ensures { result ≡ message_of len key time }
 {
     SingleMessage {
         payload: Part { start: 0, len: len },
         partition_key: key,
-        ordering_key: MaybePart::Absent,
+        ordering_key: None,
         event_time: time,
-        null_value: MaybeBool::Absent,
-        null_partition_key: MaybeBool::Absent,
+        null_value: None,
+        null_partition_key: None,
     }
 }
 
 // One message `quote`: its item of a batch's payload.
 fn quote(rt: &impl Print) -> io::Result<()> {
     let mut out = [0u8; 11];
-    let m = message(5, MaybePart::Absent, MaybeU64::Absent);
+    let m = message(5, None, None);
     put_item(&mut out, 0, b"quote", m);
     label(rt, b"B1")?;
     bytes(rt, &out)?;
@@ -70,8 +69,8 @@ fn quote(rt: &impl Print) -> io::Result<()> {
 // The published vectors of the Protocol Buffers encoding: the string `testing` under tag 2, and the varint 150.
 fn published(rt: &impl Print) -> io::Result<()> {
     let mut out = [0u8; 14];
-    let key = MaybePart::Present(Part { start: 0, len: 7 });
-    let m = message(0, key, MaybeU64::Present(150));
+    let key = Some(Part { start: 0, len: 7 });
+    let m = message(0, key, Some(150));
     put_single(&mut out, b"testing", m);
     label(rt, b"testing 150")?;
     bytes(rt, &out)?;
@@ -112,15 +111,15 @@ fn main(rt: HostRuntime) -> io::Result<()> {
     message_id(
         &rt,
         b"I1",
-        MaybeMessageIdData::Present(MessageIdData {
+        Some(MessageIdData {
             ledger_id: 7,
             entry_id: 9,
-            partition: MaybeI32::Absent,
-            batch_index: MaybeI32::Absent,
-            batch_size: MaybeI32::Absent,
+            partition: None,
+            batch_index: None,
+            batch_size: None,
         }),
     )?;
-    message_id(&rt, b"I2", MaybeMessageIdData::Absent)?;
+    message_id(&rt, b"I2", None)?;
     before_next(&rt, b"S1", 1)?;
     before_next(&rt, b"S2", 0x8000_0000_0000_0000)?;
     before_next(&rt, b"S3", u64::MAX)?;

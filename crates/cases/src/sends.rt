@@ -3,29 +3,27 @@ use crate::print::{end, label, number};
 use producer::state::ProducerState;
 use std::io;
 use types::answer::SendDecision;
-use types::message::{MaybePart, OutgoingMessage, Part};
-use types::optional::{MaybeBool, MaybeI32, MaybeI64, MaybeU64};
+use types::message::{OutgoingMessage, Part};
 use types::settings::Setting;
-use types::txn::MaybeTxnId;
-use types::types::{MaybeMessageId, ProducerHandle};
+use types::types::{ProducerHandle};
 
 // The first `len` bytes of the store, with nothing else set.
 fn message(len: usize) -> OutgoingMessage {
     OutgoingMessage {
         payload: Part { start: 0, len: len },
-        partition_key: MaybePart::Absent,
-        ordering_key: MaybePart::Absent,
-        schema_version: MaybePart::Absent,
+        partition_key: None,
+        ordering_key: None,
+        schema_version: None,
         producer_name: Part { start: 0, len: 0 },
-        event_time: MaybeU64::Absent,
-        null_value: MaybeBool::Absent,
-        null_partition_key: MaybeBool::Absent,
-        deliver_at_time: MaybeI64::Absent,
-        compression: MaybeI32::Absent,
+        event_time: None,
+        null_value: None,
+        null_partition_key: None,
+        deliver_at_time: None,
+        compression: None,
         uncompressed_size: 0,
         num_messages: 1,
-        txn_id: MaybeTxnId::Absent,
-        source_message_id: MaybeMessageId::Absent,
+        txn_id: None,
+        source_message_id: None,
     }
 }
 
@@ -38,7 +36,7 @@ fn decision(rt: &impl Print, d: SendDecision) -> io::Result<()> {
         SendDecision::Batched => {
             label(rt, b" Batched")?;
         }
-        SendDecision::Refused(e) => {
+        Err(e) => {
             label(rt, b" refused")?;
             number(rt, e.number() as u64)?;
         }

@@ -1,15 +1,14 @@
 -- The refusals of a take, 10, 2 and 9 in order.
-use Rattle.std.specs.Prelude.{ℕ, Bool, true, false, ltb, eqb}
+use Rattle.std.specs.Prelude.{ℕ, Bool, true, false, ltb, eqb, Err, Ok, Result}
 use Rattle.laws.specs.Choice.{pick}
-use Rattle.types.specs.declared.answer.Outcome.{Outcome}
-use Rattle.types.specs.declared.answer.Outcome.TheVariants.{Done, Refused}
 use Rattle.types.specs.declared.error.ProducerError.TheVariants.{NoFrame, PartOutside, TooShort}
 use Rattle.frames.specs.declared.span.Span.{Span}
+use Rattle.types.specs.declared.error.ProducerError.{ProducerError}
 
-abbrev pub answer_of : ℕ → Span → ℕ → Outcome
+abbrev pub answer_of : ℕ → Span → ℕ → Result (Unit {0}) ProducerError
 answer_of frames s room =
-    pick (eqb frames 0) (Refused NoFrame) (pick s.inside (pick (ltb room s.len) (Refused TooShort) Done) (Refused PartOutside))
+    pick (eqb frames 0) (Err NoFrame) (pick s.inside (pick (ltb room s.len) (Err TooShort) (Ok tt)) (Err PartOutside))
 
-abbrev pub is_done : Outcome → Bool
-is_done Done = true
-is_done (Refused e) = false
+abbrev pub is_done : Result (Unit {0}) ProducerError → Bool
+is_done (Ok tt) = true
+is_done (Err e) = false

@@ -1,5 +1,5 @@
 -- The front frame as it goes out. These mirror the code: what a reader must believe is in crate `queue`.
-use Rattle.std.specs.Prelude.{ℕ, ◌^◌, Bool, true, false, ltb, replicate}
+use Rattle.std.specs.Prelude.{ℕ, ◌^◌, Bool, true, false, ltb, replicate, None, Option, Some}
 use Rattle.laws.specs.Choice.{pick}
 use Rattle.wire.specs.Uuid.{uuid_text}
 use Rattle.queue.specs.Batch.{at_least_one}
@@ -8,25 +8,17 @@ use Rattle.types.specs.declared.frame.ChunkedMessageContext.{ChunkedMessageConte
 use Rattle.types.specs.declared.frame.FrameRecord.{FrameRecord}
 use Rattle.types.specs.declared.frame.FrameKind.{FrameKind}
 use Rattle.types.specs.declared.frame.FrameKind.TheVariants.{Single, Batch, Chunked}
-use Rattle.types.specs.declared.message.MaybePart.TheVariants as part
-use Rattle.types.specs.declared.optional.MaybeU64.{MaybeU64}
-use Rattle.types.specs.declared.optional.MaybeU64.TheVariants as number
-use Rattle.types.specs.declared.optional.MaybeBool.{MaybeBool}
-use Rattle.types.specs.declared.optional.MaybeBool.TheVariants as mark
-use Rattle.types.specs.declared.optional.MaybeI32.TheVariants as i32
-use Rattle.types.specs.declared.optional.MaybeI64.TheVariants as i64
-use Rattle.types.specs.declared.types.MaybeMessageId.TheVariants as id
 use Rattle.types.specs.declared.types.ProducerHandle.{ProducerHandle}
 use Rattle.types.specs.declared.outbound.UuidText.{UuidText}
 use Rattle.types.specs.declared.outbound.OutboundFrame.{OutboundFrame}
 
-abbrev pub present_if : Bool → ℕ → MaybeU64
-present_if there n = pick there (number.Present n) number.Absent
+abbrev pub present_if : Bool → ℕ → Option ℕ
+present_if there n = pick there (Some n) None
 
 abbrev pub no_uuid : UuidText
 no_uuid = record { present = false; text = replicate 36 0 }
 
-abbrev pub message_out : ProducerHandle → FrameRecord → ℕ → MaybeBool → MaybeU64 → MaybeU64 → MaybeU64 → MaybeU64 → UuidText → ℕ → OutboundFrame
+abbrev pub message_out : ProducerHandle → FrameRecord → ℕ → Option Bool → Option ℕ → Option ℕ → Option ℕ → Option ℕ → UuidText → ℕ → OutboundFrame
 message_out handle r num_messages is_chunk size chunk_id num_chunks totalSize uuid len =
     let m = r.message in
     record {
@@ -35,7 +27,7 @@ message_out handle r num_messages is_chunk size chunk_id num_chunks totalSize uu
         sequence_id = r.sequence_id;
         num_messages = num_messages;
         txn_id = m.txn_id;
-        highest_sequence_id = number.Absent;
+        highest_sequence_id = None;
         is_chunk = is_chunk;
         message_id = m.source_message_id;
       };
@@ -53,8 +45,8 @@ message_out handle r num_messages is_chunk size chunk_id num_chunks totalSize uu
         compression = m.compression;
         uncompressed_size = size;
         txn_id = m.txn_id;
-        highest_sequence_id = number.Absent;
-        num_messages_in_batch = number.Absent;
+        highest_sequence_id = None;
+        num_messages_in_batch = None;
         chunk_id = chunk_id;
         num_chunks_from_msg = num_chunks;
         total_chunk_msg_size = totalSize;
@@ -66,14 +58,14 @@ message_out handle r num_messages is_chunk size chunk_id num_chunks totalSize uu
 abbrev pub single_out : ProducerHandle → FrameRecord → ℕ → OutboundFrame
 single_out handle r len =
     let size = r.message.uncompressed_size in
-    message_out handle r (at_least_one r.message.num_messages) mark.Absent (present_if (ltb 0 size) size) number.Absent number.Absent number.Absent no_uuid len
+    message_out handle r (at_least_one r.message.num_messages) None (present_if (ltb 0 size) size) None None None no_uuid len
 
 abbrev pub chunk_out : ProducerHandle → FrameRecord → ChunkedMessageContext → ℕ → OutboundFrame
 chunk_out handle r c len =
-    message_out handle r 1 (mark.Present true) (number.Present r.message.uncompressed_size) (number.Present c.next_chunk)
-    (number.Present c.total_chunks) (number.Present r.message.payload.len) (record { present = true; text = uuid_text r.uuid }) len
+    message_out handle r 1 (Some true) (Some r.message.uncompressed_size) (Some c.next_chunk)
+    (Some c.total_chunks) (Some r.message.payload.len) (record { present = true; text = uuid_text r.uuid }) len
 
-abbrev pub batch_frame_out : ProducerHandle → FrameRecord → BatchFrame → MaybeU64 → MaybeU64 → ℕ → OutboundFrame
+abbrev pub batch_frame_out : ProducerHandle → FrameRecord → BatchFrame → Option ℕ → Option ℕ → ℕ → OutboundFrame
 batch_frame_out handle r b highest size len =
     record {
       command = record {
@@ -82,28 +74,28 @@ batch_frame_out handle r b highest size len =
         num_messages = b.num_messages;
         txn_id = b.txn_id;
         highest_sequence_id = highest;
-        is_chunk = mark.Absent;
-        message_id = id.Absent;
+        is_chunk = None;
+        message_id = None;
       };
       metadata = record {
         producer_name = record { own = record { start = 0; len = 0 }; producer = r.producer_name };
         sequence_id = r.sequence_id;
         publish_time = r.publish_time;
-        partition_key = part.Absent;
-        ordering_key = part.Absent;
-        schema_version = part.Absent;
-        event_time = number.Absent;
-        null_value = mark.Absent;
-        null_partition_key = mark.Absent;
-        deliver_at_time = i64.Absent;
-        compression = i32.Absent;
+        partition_key = None;
+        ordering_key = None;
+        schema_version = None;
+        event_time = None;
+        null_value = None;
+        null_partition_key = None;
+        deliver_at_time = None;
+        compression = None;
         uncompressed_size = size;
         txn_id = b.txn_id;
         highest_sequence_id = highest;
-        num_messages_in_batch = number.Present b.num_messages;
-        chunk_id = number.Absent;
-        num_chunks_from_msg = number.Absent;
-        total_chunk_msg_size = number.Absent;
+        num_messages_in_batch = Some b.num_messages;
+        chunk_id = None;
+        num_chunks_from_msg = None;
+        total_chunk_msg_size = None;
         uuid = no_uuid;
       };
       payload_len = len;

@@ -4,19 +4,18 @@ ghost use Rattle.frames.specs.Outbound.{present_if, message_out, single_out, chu
 
 use rules::numbers::message_count;
 use types::frame::{BatchFrame, ChunkedMessageContext, FrameKind, FrameRecord};
-use types::message::{MaybePart, Part};
-use types::optional::{MaybeBool, MaybeI32, MaybeI64, MaybeU64};
+use types::message::{Part};
 use types::outbound::{CommandSend, FrameName, MessageMetadata, OutboundFrame, UuidText};
-use types::types::{MaybeMessageId, ProducerHandle};
+use types::types::{ProducerHandle};
 use wire::uuid::uuid_text;
 
-fn present_if(there: bool, n: u64) -> MaybeU64
+fn present_if(there: bool, n: u64) -> Option<u64>
     ensures { result ≡ present_if there n }
 {
     if there {
-        MaybeU64::Present(n)
+        Some(n)
     } else {
-        MaybeU64::Absent
+        None
     }
 }
 
@@ -25,11 +24,11 @@ fn message_frame(
     handle: ProducerHandle,
     front: FrameRecord,
     num_messages: u64,
-    is_chunk: MaybeBool,
-    uncompressed_size: MaybeU64,
-    chunk_id: MaybeU64,
-    num_chunks: MaybeU64,
-    total_size: MaybeU64,
+    is_chunk: Option<bool>,
+    uncompressed_size: Option<u64>,
+    chunk_id: Option<u64>,
+    num_chunks: Option<u64>,
+    total_size: Option<u64>,
     uuid: UuidText,
     payload_len: usize,
 ) -> OutboundFrame
@@ -54,7 +53,7 @@ fn message_frame(
         sequence_id: sequence_id,
         num_messages: num_messages,
         txn_id: txn_id,
-        highest_sequence_id: MaybeU64::Absent,
+        highest_sequence_id: None,
         is_chunk: is_chunk,
         message_id: message_id,
     };
@@ -76,8 +75,8 @@ fn message_frame(
         compression: compression,
         uncompressed_size: uncompressed_size,
         txn_id: txn_id,
-        highest_sequence_id: MaybeU64::Absent,
-        num_messages_in_batch: MaybeU64::Absent,
+        highest_sequence_id: None,
+        num_messages_in_batch: None,
         chunk_id: chunk_id,
         num_chunks_from_msg: num_chunks,
         total_chunk_msg_size: total_size,
@@ -105,11 +104,11 @@ fn single_frame(handle: ProducerHandle, front: FrameRecord, payload_len: usize) 
         handle,
         front,
         count,
-        MaybeBool::Absent,
+        None,
         uncompressed_size,
-        MaybeU64::Absent,
-        MaybeU64::Absent,
-        MaybeU64::Absent,
+        None,
+        None,
+        None,
         uuid,
         payload_len,
     )
@@ -135,11 +134,11 @@ fn chunk_frame(
         handle,
         front,
         1,
-        MaybeBool::Present(true),
-        MaybeU64::Present(m.uncompressed_size as u64),
-        MaybeU64::Present(c.next_chunk as u64),
-        MaybeU64::Present(c.total_chunks as u64),
-        MaybeU64::Present(payload.len as u64),
+        Some(true),
+        Some(m.uncompressed_size as u64),
+        Some(c.next_chunk as u64),
+        Some(c.total_chunks as u64),
+        Some(payload.len as u64),
         uuid,
         payload_len,
     )
@@ -167,8 +166,8 @@ fn batch_frame(
         num_messages: count,
         txn_id: txn_id,
         highest_sequence_id: highest,
-        is_chunk: MaybeBool::Absent,
-        message_id: MaybeMessageId::Absent,
+        is_chunk: None,
+        message_id: None,
     };
     let metadata = MessageMetadata {
         producer_name: FrameName {
@@ -177,21 +176,21 @@ fn batch_frame(
         },
         sequence_id: sequence_id,
         publish_time: front.publish_time,
-        partition_key: MaybePart::Absent,
-        ordering_key: MaybePart::Absent,
-        schema_version: MaybePart::Absent,
-        event_time: MaybeU64::Absent,
-        null_value: MaybeBool::Absent,
-        null_partition_key: MaybeBool::Absent,
-        deliver_at_time: MaybeI64::Absent,
-        compression: MaybeI32::Absent,
+        partition_key: None,
+        ordering_key: None,
+        schema_version: None,
+        event_time: None,
+        null_value: None,
+        null_partition_key: None,
+        deliver_at_time: None,
+        compression: None,
         uncompressed_size: uncompressed_size,
         txn_id: txn_id,
         highest_sequence_id: highest,
-        num_messages_in_batch: MaybeU64::Present(count),
-        chunk_id: MaybeU64::Absent,
-        num_chunks_from_msg: MaybeU64::Absent,
-        total_chunk_msg_size: MaybeU64::Absent,
+        num_messages_in_batch: Some(count),
+        chunk_id: None,
+        num_chunks_from_msg: None,
+        total_chunk_msg_size: None,
         uuid: UuidText {
             present: false,
             text: [0; 36],

@@ -1,7 +1,6 @@
 -- A take writes its payload to the start of the buffer that it is lent.
+use Rattle.std.specs.Prelude.{Err, Ok, Result}
 use Rattle.std.proofs.Common.{◌≡◌, ℕ, ◌-◌, ◌≤◌, min, List, ◌++◌, length, take, drop, refl, ap, ◌∙◌, arith, length-drop, length-take, length-take-le, drop_at}
-use Rattle.types.specs.declared.answer.Outcome.{Outcome}
-use Rattle.types.specs.declared.answer.Outcome.TheVariants.{Done, Refused}
 use Rattle.types.specs.declared.outbound.OutboundFrame.{OutboundFrame}
 use Rattle.queue.specs.Take.{written}
 use Rattle.queue.specs.Told.{told_giving}
@@ -11,11 +10,12 @@ use Rattle.script.specs.Output.{Wrote}
 use Rattle.host.specs.Framing.{Completes, taken}
 use Rattle.script.proofs.Outputs.{nothing}
 use Rattle.host.proofs.Framing.{lent}
+use Rattle.types.specs.declared.error.ProducerError.{ProducerError}
 
 module _ (store before after : List ℕ) (f : OutboundFrame) (l : length after ≡ length before) where
-  wrote : (o : Outcome) → after ≡ written (told_giving o (frame_told store after f)) before
+  wrote : (o : Result (Unit {0}) ProducerError) → after ≡ written (told_giving o (frame_told store after f)) before
       → Wrote 0 before after (taken o f.payload_len (length before))
-  wrote Done e =
+  wrote (Ok tt) e =
       let n = f.payload_len in
       let k : length (take n after) ≡ min n (length before) = length-take n after ∙ omega arith in
       record {
@@ -28,7 +28,7 @@ module _ (store before after : List ℕ) (f : OutboundFrame) (l : length after �
             ∙ drop_at (take n after) (drop (length (take n after)) before) (min n (length before)) k
             ∙ ap (λ (j : ℕ). drop j before) k;
       }
-  wrote (Refused r) e = rw e nothing
+  wrote (Err r) e = rw e nothing
 
 pub took : {d ys e : List ℕ} {to start end r : ℕ} (store : List ℕ) (q : OutboundAnswer)
     → ys ≡ written (told_frame store ys q) (take (end - start) (drop start d))

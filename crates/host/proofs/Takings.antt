@@ -1,12 +1,11 @@
 -- A take by its plan: a frame that goes out lies in the store and fits, and its payload is all that is written.
+use Rattle.std.specs.Prelude.{Err, Ok, Result}
 use Rattle.std.proofs.Common.{◌≡◌, ℕ, ◌+◌, ◌-◌, ◌^◌, ◌<◌, ◌≤◌, min, Bool, true, false, ◌&&◌, eqb, ltb, leb, List, ◌++◌, length, take, drop, sym, refl, ap, ◌∙◌, subst, append_assoc, arith, length-append, length-drop, length-take-le, take_at, drop_at, ltb-false, leb-true}
 use native.Mathlib.Nat.{add-sub_cancel_left}
 use Rattle.laws.specs.Choice.{pick}
 use Rattle.laws.specs.Numbers.{add_sat}
 use Rattle.laws.proofs.Choice.{and_left, differ}
 use Rattle.types.specs.Values.{part_in, maybe_in}
-use Rattle.types.specs.declared.answer.Outcome.{Outcome}
-use Rattle.types.specs.declared.answer.Outcome.TheVariants.{Done, Refused}
 use Rattle.types.specs.declared.error.ProducerError.TheVariants.{NoFrame, PartOutside, TooShort}
 use Rattle.types.specs.declared.frame.FrameRecord.{FrameRecord}
 use Rattle.types.specs.declared.frame.FrameKind.{FrameKind}
@@ -33,6 +32,7 @@ use Rattle.host.specs.Framing.{Completes, taken}
 use Rattle.script.proofs.Outputs.{further}
 use Rattle.host.proofs.Framing.{lent}
 use Rattle.host.specs.Lays.{Lays, Message}
+use Rattle.types.specs.declared.error.ProducerError.{ProducerError}
 
 -- ── what a frame that goes out has passed ──
 
@@ -41,15 +41,15 @@ record Passed (empty inside short : Bool) : Type 0 where
   within : inside ≡ true
   long : short ≡ false
 
-passes : (z i t : Bool) → is_done (pick z (Refused NoFrame) (pick i (pick t (Refused TooShort) Done) (Refused PartOutside))) ≡ true → Passed z i t
+passes : (z i t : Bool) → is_done (pick z (Err NoFrame) (pick i (pick t (Err TooShort) (Ok tt)) (Err PartOutside))) ≡ true → Passed z i t
 passes true i t e = differ (cc)
 passes false true true e = differ (cc)
 passes false true false e = record { some = refl; within = refl; long = refl }
 passes false false t e = differ (cc)
 
-done_is : (o : Outcome) → is_done o ≡ true → o ≡ Done
-done_is Done e = refl
-done_is (Refused r) e = differ (cc)
+done_is : (o : Result (Unit {0}) ProducerError) → is_done o ≡ true → o ≡ (Ok tt)
+done_is (Ok tt) e = refl
+done_is (Err r) e = differ (cc)
 
 size_is : (h : ProducerHandle) (r : FrameRecord) (k : FrameKind) (n : ℕ) → (frame_out h r k n).payload_len ≡ n
 size_is h r Single n = refl
@@ -73,7 +73,7 @@ goes c r s count room p e d = subst (λ (q : TakePlan). q.done ≡ true → Goes
           inside = h.within;
           fits = f;
           written =
-              subst (λ (a : Outcome). s.len ≤ taken a (frame_out c.handle r r.kind s.len).payload_len room) (sym (done_is o t))
+              subst (λ (a : Result (Unit {0}) ProducerError). s.len ≤ taken a (frame_out c.handle r r.kind s.len).payload_len room) (sym (done_is o t))
               (subst (λ (n : ℕ). s.len ≤ min n room) (sym (size_is c.handle r r.kind s.len)) (omega arith));
         }
 
@@ -151,11 +151,11 @@ laid_small : (d : Bool) (len n : ℕ) → (d ≡ true → len ≤ n) → pick d 
 laid_small true len n h = h refl
 laid_small false len n h = omega arith
 
-taken_small : (o : Outcome) (n room : ℕ) → taken o n room ≤ room
-taken_small Done n room = omega arith
-taken_small (Refused e) n room = omega arith
+taken_small : (o : Result (Unit {0}) ProducerError) (n room : ℕ) → taken o n room ≤ room
+taken_small (Ok tt) n room = omega arith
+taken_small (Err e) n room = omega arith
 
-pub took : {d ys e : List ℕ} {to start end r m len : ℕ} (o : Outcome) (n : ℕ) (done : Bool) → start ≤ end → end ≤ length d
+pub took : {d ys e : List ℕ} {to start end r m len : ℕ} (o : Result (Unit {0}) ProducerError) (n : ℕ) (done : Bool) → start ≤ end → end ≤ length d
     → Lays done len (take (end - start) (drop start d)) ys m → (done ≡ true → len ≤ taken o n (end - start))
     → Completes to start (taken o n (end - start)) (take start d ++ (ys ++ drop (end - start) (drop start d))) e r → Wrote to d e r
 took {d} {ys} {e} {to} {start} {end} {r} {m} {len} o n done h k lays small c =

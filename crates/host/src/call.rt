@@ -3,6 +3,7 @@
 ghost use Rattle.std.specs.Prelude.{◌≤◌, length};
 ghost use Rattle.script.specs.Output.{Wrote};
 
+use types::error::ProducerError;
 use crate::arguments::{
     behind_message, error_at, name_bytes_at, receipt_at, sending_at, setting_at,
 };
@@ -15,7 +16,6 @@ use script::answer::{
 };
 use script::read::{behind, i32_at, lent_of, u64_at, usize_at};
 use script::write::{put_i32, put_message_id, put_usize};
-use types::answer::Outcome;
 use types::entry::OpSend;
 use types::types::MessageId;
 
@@ -78,19 +78,19 @@ fn put_receipt(
     out: &mut [u8],
     to: usize,
     code: u8,
-    answer: Outcome,
+    answer: Result<(), ProducerError>,
     id: MessageId,
     op: OpSend,
 ) -> usize
     ensures { Wrote to out.old out.new result }
 {
     match answer {
-        Outcome::Done => {
+        Ok(()) => {
             let status = put_status(out, to, code, 0);
             let told = put_message_id(out, status, id);
             put_entry(out, told, op)
         }
-        Outcome::Refused(e) => put_refusal(out, to, code, e),
+        Err(e) => put_refusal(out, to, code, e),
     }
 }
 
@@ -116,16 +116,16 @@ fn call_receipt(
     }
 }
 
-fn put_error(out: &mut [u8], to: usize, code: u8, answer: Outcome, error: i32, op: OpSend) -> usize
+fn put_error(out: &mut [u8], to: usize, code: u8, answer: Result<(), ProducerError>, error: i32, op: OpSend) -> usize
     ensures { Wrote to out.old out.new result }
 {
     match answer {
-        Outcome::Done => {
+        Ok(()) => {
             let status = put_status(out, to, code, 0);
             let told = put_i32(out, status, error);
             put_entry(out, told, op)
         }
-        Outcome::Refused(e) => put_refusal(out, to, code, e),
+        Err(e) => put_refusal(out, to, code, e),
     }
 }
 

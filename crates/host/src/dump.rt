@@ -6,7 +6,7 @@ use rules::numbers::at_most;
 use script::answer::{put_core, put_publish};
 use script::write::{put_bool, put_count32};
 use types::entry::Publish;
-use upkeep::pending::{Found, locate};
+use upkeep::pending::{locate};
 
 const CODE: u8 = 0x26;
 
@@ -53,10 +53,10 @@ fn put_entries(
     at
 }
 
-fn mark_of(found: Found) -> u8 {
+fn mark_of(found: Option<usize>) -> u8 {
     match found {
-        Found::At(_) => 1,
-        Found::Nothing => 0,
+        Some(_) => 1,
+        None => 0,
     }
 }
 

@@ -19,7 +19,7 @@ use script::operation::STORE;
 use script::read::{behind, bytes_at, lent_of, u64_at, usize_at};
 use types::error::ProducerError;
 use types::types::ProducerHandle;
-use upkeep::pending::{Found, locate};
+use upkeep::pending::{locate};
 
 // How an operation is carried out.
 #[derive(Clone, Copy)]
@@ -168,7 +168,7 @@ pub(crate) fn run_in_place(script: &[u8], store_len: usize, handle: u64, out: &m
                 let len = c.rings.pending_len;
                 let found = locate(&s.pending_ids, &s.pending_marks, head, len, id);
                 match found {
-                    Found::At(i) => {
+                    Some(i) => {
                         let first = slot(256, head, i);
                         let told = put_settled(script, at, code, out, to);
                         let publish = s.pending[first];
@@ -208,7 +208,7 @@ pub(crate) fn run_in_place(script: &[u8], store_len: usize, handle: u64, out: &m
                         c.rings.pending_head = head_then;
                         c.rings.pending_len = left;
                     }
-                    Found::Nothing => {
+                    None => {
                         to = put_refusal(out, to, code, ProducerError::NotAnswerable);
                     }
                 }

@@ -3,6 +3,7 @@
 ghost use Rattle.std.specs.Prelude.{◌≤◌};
 ghost use Rattle.script.specs.Output.{Wrote};
 
+use types::error::ProducerError;
 use plans::delta::no_entry;
 use producer::state::ProducerState;
 use rules::numbers::at_most;
@@ -10,7 +11,6 @@ use script::answer::{put_entries, put_outcome, put_refusal, put_status};
 use script::read::{behind, u32_at, u64_at};
 use script::values::entry_at;
 use script::write::put_count32;
-use types::answer::{CountOutcome, Outcome};
 use types::entry::OpSend;
 use types::types::SequenceId;
 
@@ -61,18 +61,18 @@ fn put_drained(
     out: &mut [u8],
     to: usize,
     code: u8,
-    answer: CountOutcome,
+    answer: Result<usize, ProducerError>,
     table: [OpSend; 257],
 ) -> usize
     ensures { Wrote to out.old out.new result }
 {
     match answer {
-        CountOutcome::Count(n) => {
+        Ok(n) => {
             let status = put_status(out, to, code, 0);
             let count = put_count32(out, status, n);
             put_entries(out, count, table, n)
         }
-        CountOutcome::Refused(e) => put_refusal(out, to, code, e),
+        Err(e) => put_refusal(out, to, code, e),
     }
 }
 
@@ -109,14 +109,14 @@ fn put_snapped(
     out: &mut [u8],
     to: usize,
     code: u8,
-    answer: Outcome,
+    answer: Result<(), ProducerError>,
     dropped: Entries,
     replay: Entries,
 ) -> usize
     ensures { Wrote to out.old out.new result }
 {
     match answer {
-        Outcome::Done => {
+        Ok(()) => {
             let gone = dropped.table;
             let kept = replay.table;
             let status = put_status(out, to, code, 0);
@@ -125,15 +125,15 @@ fn put_snapped(
             let c = put_entries(out, b, gone, dropped.len);
             put_entries(out, c, kept, replay.len)
         }
-        Outcome::Refused(e) => put_refusal(out, to, code, e),
+        Err(e) => put_refusal(out, to, code, e),
     }
 }
 
 // A snapshot that is refused leaves the table of the one before.
-fn kept_table(answer: Outcome, replay: Entries, last: Entries) -> Entries {
+fn kept_table(answer: Result<(), ProducerError>, replay: Entries, last: Entries) -> Entries {
     match answer {
-        Outcome::Done => replay,
-        Outcome::Refused(_) => last,
+        Ok(()) => replay,
+        Err(_) => last,
     }
 }
 

@@ -11,7 +11,6 @@ use plans::state::Core;
 use script::answer::{put_count, put_deadline, put_outcome, put_stats, put_status, put_yes};
 use script::read::{behind, i32_at, maybe_id_data_at, u64_at, usize_at};
 use script::write::{put_i32, put_message_id};
-use types::answer::Outcome;
 use types::error::ProducerError;
 use types::stats::SequenceIds;
 use types::types::MessageId;
@@ -140,9 +139,9 @@ pub(crate) fn plan(
 // The ids once an entry has left by a receipt or by an error.
 pub(crate) fn settled_ids(ids: SequenceIds, code: u8, id: u64) -> SequenceIds {
     let answer = if code == 0x05 {
-        Outcome::Done
+        Ok(())
     } else {
-        Outcome::Refused(ProducerError::NotAnswerable)
+        Err(ProducerError::NotAnswerable)
     };
     published_ids(ids, answer, id)
 }

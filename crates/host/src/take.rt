@@ -3,13 +3,13 @@ ghost use Rattle.std.specs.Prelude.{◌+◌, ◌-◌, ◌≤◌, length};
 ghost use Rattle.script.specs.Output.{Wrote};
 ghost use Rattle.host.specs.Framing.{Completes, taken};
 
+use types::error::ProducerError;
 use crate::call::Called;
 use producer::state::ProducerState;
 use rules::numbers::at_most;
 use script::answer::{put_command, put_metadata, put_refusal, put_status};
 use script::read::{behind, lent_of, u64_at, usize_at};
 use script::write::put_usize;
-use types::answer::Outcome;
 use types::outbound::OutboundFrame;
 
 pub(crate) const CODE: u8 = 0x04;
@@ -57,18 +57,18 @@ pub(crate) fn put_taken(
     start: usize,
     end: usize,
     store: &[u8],
-    answer: Outcome,
+    answer: Result<(), ProducerError>,
     frame: OutboundFrame,
 ) -> usize
     requires { (at ≤ start) × ((start ≤ end) × (end ≤ length out.old)) }
     ensures { Completes at start (taken answer frame.payload_len (end - start)) out.old out.new result }
 {
     match answer {
-        Outcome::Done => {
+        Ok(()) => {
             let n = at_most(frame.payload_len, end - start);
             put_frame(out, at, start, n, store, frame)
         }
-        Outcome::Refused(e) => put_refusal(out, at, CODE, e),
+        Err(e) => put_refusal(out, at, CODE, e),
     }
 }
 

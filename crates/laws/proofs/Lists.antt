@@ -1,8 +1,8 @@
 -- The turns of loops over a list: each law says that a turn leaves alone what is still to come of it. Assumes nothing.
+use Rattle.std.specs.Prelude.{Some, None}
 use mathlib.Core.Path.{◌≡◌, refl, ap, sym, ◌∙◌}
 use mathlib.Core.List.{List, [], ◌∷◌, ◌++◌, map, append-nil}
 use mathlib.Core.Bool.{Bool, true, false}
-use mathlib.Core.Option.{some, none}
 use Prim.Native.Nat.{ℕ, zero, suc, ◌+◌, ◌≤◌, ◌<◌}
 use native.Mathlib.Numerals.{add-one}
 use native.Mathlib.Omega.{arith}
@@ -48,28 +48,28 @@ module _ {A : Type 0} where
 
   -- the first element that passes
   next_of : (p : A → Bool) (l : List A) (i : ℕ) (d : A) (b : Bool) → i < length l → p (get_or l i d) ≡ b
-      → first_at p i (drop i l) ≡ pick b (some i) (first_at p (i + 1) (drop (suc i) l))
-  next_of p l i d b h t = ap (first_at p i) (drop-cons l i d h) ∙ ap (λ (c : Bool). pick c (some i) (first_at p (i + 1) (drop (suc i) l))) t
+      → first_at p i (drop i l) ≡ pick b (Some i) (first_at p (i + 1) (drop (suc i) l))
+  next_of p l i d b h t = ap (first_at p i) (drop-cons l i d h) ∙ ap (λ (c : Bool). pick c (Some i) (first_at p (i + 1) (drop (suc i) l))) t
 
-  pub first_hit : (p : A → Bool) (l : List A) (i : ℕ) (d : A) → i < length l → p (get_or l i d) ≡ true → first_at p i (drop i l) ≡ some i
+  pub first_hit : (p : A → Bool) (l : List A) (i : ℕ) (d : A) → i < length l → p (get_or l i d) ≡ true → first_at p i (drop i l) ≡ Some i
   first_hit p l i d h t = next_of p l i d true h t
 
   pub first_miss : (p : A → Bool) (l : List A) (i : ℕ) (d : A) → i < length l → p (get_or l i d) ≡ false
       → first_at p (i + 1) (drop (i + 1) l) ≡ first_at p i (drop i l)
   first_miss p l i d h t = ap (λ (k : ℕ). first_at p (i + 1) (drop k l)) (add-one i) ∙ sym (next_of p l i d false h t)
 
-  pub first_none : (p : A → Bool) (l : List A) (i : ℕ) → length l ≤ i → first_at p i (drop i l) ≡ none
+  pub first_none : (p : A → Bool) (l : List A) (i : ℕ) → length l ≤ i → first_at p i (drop i l) ≡ None
   first_none p l i h = ap (first_at p i) (drop_of_length-le l h)
 
   -- what was found lies in the list
-  pub first_below : (p : A → Bool) (l : List A) (i k : ℕ) → first_at p i l ≡ some k → k < i + length l
+  pub first_below : (p : A → Bool) (l : List A) (i k : ℕ) → first_at p i l ≡ Some k → k < i + length l
   first_below p [] i k e = absurd (none_some e)
     where
-      none_some : none ≡ some k → ⊥
+      none_some : None ≡ Some k → ⊥
       none_some q = let z : ◌≡◌ {A = ℕ} 0 1 = cc in omega arith
   first_below p (x ∷ l) i k e = go (p x) e (first_below p l (i + 1) k)
     where
-      go : (b : Bool) → pick b (some i) (first_at p (i + 1) l) ≡ some k → (first_at p (i + 1) l ≡ some k → k < i + 1 + length l) → k < i + length (x ∷ l)
+      go : (b : Bool) → pick b (Some i) (first_at p (i + 1) l) ≡ Some k → (first_at p (i + 1) l ≡ Some k → k < i + 1 + length l) → k < i + length (x ∷ l)
       go true q later = let same : i ≡ k = cc in omega arith
       go false q later = omega (arith, later q)
 

@@ -1,8 +1,8 @@
 -- The loops over a ring, over its elements and its capacity: for each an invariant, with how it begins, goes on and ends. Assumes nothing.
+use Rattle.std.specs.Prelude.{Some, None}
 use mathlib.Core.Path.{◌≡◌, refl, ap, sym, ◌∙◌}
 use mathlib.Core.List.{List, map}
 use mathlib.Core.Bool.{Bool, true, false}
-use mathlib.Core.Option.{some, none}
 use Prim.Native.Nat.{ℕ, ◌+◌, ◌-◌, ◌≤◌, ◌<◌, min}
 use native.Mathlib.Omega.{arith}
 use lib.ListN.{length, take, drop, get_or, set, length-set}
@@ -86,12 +86,12 @@ module _ {A : Type 0} (cap : ℕ) (pos : 0 < cap) where
         let e : length l ≡ min n cap = length_ring cap pos a len h n in
         record { low = omega arith; left = first_miss p l i d (omega arith) (ap p (ring_at cap pos a len d h n i b) ∙ t) ∙ m.left }
 
-    pub missed_hit : (d : A) → i < min n cap → p (get_or a (slot cap h i) d) ≡ true → first_at p 0 (ring cap a h n) ≡ some i
+    pub missed_hit : (d : A) → i < min n cap → p (get_or a (slot cap h i) d) ≡ true → first_at p 0 (ring cap a h n) ≡ Some i
     missed_hit d b t =
         let l : List A = ring cap a h n in
         let e : length l ≡ min n cap = length_ring cap pos a len h n in
         sym m.left ∙ first_hit p l i d (omega arith) (ap p (ring_at cap pos a len d h n i b) ∙ t)
 
-    pub missed_all : min n cap ≤ i → first_at p 0 (ring cap a h n) ≡ none
+    pub missed_all : min n cap ≤ i → first_at p 0 (ring cap a h n) ≡ None
     missed_all b =
         let e : length (ring cap a h n) ≡ min n cap = length_ring cap pos a len h n in sym m.left ∙ first_none p (ring cap a h n) i (omega arith)

@@ -1,6 +1,5 @@
 -- What is done to lists of any elements.
-use Rattle.std.specs.Prelude.{ℕ, ◌+◌, Bool, List, [], ◌∷◌, ◌++◌, ltb, length, take, drop, set}
-use Rattle.std.proofs.Math.Option.{Option, some, none}
+use Rattle.std.specs.Prelude.{ℕ, ◌+◌, Bool, List, [], ◌∷◌, ◌++◌, ltb, length, take, drop, set, None, Option, Some}
 use Rattle.laws.specs.Choice.{pick}
 
 -- the list without what stands at p
@@ -9,8 +8,8 @@ without l p = take p l ++ drop (p + 1) l
 
 -- the place of the first element that passes, counted from i
 abbrev pub first_at : {A : Type 0} → (A → Bool) → ℕ → List A → Option ℕ
-first_at p i [] = none
-first_at p i (x ∷ l) = pick (p x) (some i) (first_at p (i + 1) l)
+first_at p i [] = None
+first_at p i (x ∷ l) = pick (p x) (Some i) (first_at p (i + 1) l)
 
 -- x at the end of a list that holds at most cap; a full one stays
 abbrev pub onto : {A : Type 0} → ℕ → List A → A → List A

@@ -1,9 +1,7 @@
 -- What the plans of a flush answer.
-use Rattle.std.specs.Prelude.{ℕ, ◌+◌, Bool, nat_lt}
+use Rattle.std.specs.Prelude.{ℕ, ◌+◌, Bool, nat_lt, Err, Ok, Result}
 use Rattle.laws.specs.Choice.{pick}
 use Rattle.types.specs.Empty.{empty_batch}
-use Rattle.types.specs.declared.answer.CountOutcome.{CountOutcome}
-use Rattle.types.specs.declared.answer.CountOutcome.TheVariants.{Count, Refused}
 use Rattle.types.specs.declared.error.ProducerError.TheVariants.{OutboundFull}
 use Rattle.queue.specs.Batch.{batch_record, is_empty}
 use Rattle.rules.specs.Batch.{makes_frame}
@@ -11,6 +9,7 @@ use Rattle.plans.specs.declared.state.Core.{Core}
 use Rattle.plans.specs.declared.delta.Pushed.{Pushed}
 use Rattle.plans.specs.declared.delta.FlushDelta.{FlushDelta}
 use Rattle.plans.specs.Delta.{no_frame, core_batch, counted_core, pushed}
+use Rattle.types.specs.declared.error.ProducerError.{ProducerError}
 
 -- the open batch becomes a frame
 abbrev pub flushed_core : ℕ → Core → Pushed
@@ -25,13 +24,13 @@ abbrev pub flushed_if : Bool → ℕ → Core → Pushed
 flushed_if asked publish_time c = pick asked (flushed_core publish_time c) (unpushed c)
 
 -- count 0 for an empty batch or a closed producer; 4 only where a frame would be made
-abbrev pub flush_answer : Core → CountOutcome
+abbrev pub flush_answer : Core → Result ℕ ProducerError
 flush_answer c =
-    pick (is_empty c.batch) (Count 0)
-    (pick c.settings.switches.closed (Count 0)
-    (pick (nat_lt 1024 (c.rings.waiting + 1)) (Refused OutboundFull) (Count 1)))
+    pick (is_empty c.batch) (Ok 0)
+    (pick c.settings.switches.closed (Ok 0)
+    (pick (nat_lt 1024 (c.rings.waiting + 1)) (Err OutboundFull) (Ok 1)))
 
-abbrev pub flush_of : CountOutcome → ℕ → Core → FlushDelta
+abbrev pub flush_of : Result ℕ ProducerError → ℕ → Core → FlushDelta
 flush_of answer publish_time c =
     let p = flushed_if (makes_frame answer) publish_time c in
     record { answer = answer; core = p.core; frame = p.frame }

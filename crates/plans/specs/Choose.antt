@@ -1,28 +1,27 @@
 -- The refusals of a send, 1 to 7 in order, by the scalars. What 6 refuses goes its way, which may flush.
-use Rattle.std.specs.Prelude.{ℕ, ◌+◌, min, not, ◌&&◌, nat_le, nat_lt}
+use Rattle.std.specs.Prelude.{ℕ, ◌+◌, min, not, ◌&&◌, nat_le, nat_lt, Err, Ok, Result}
 use Rattle.laws.specs.Choice.{pick}
 use Rattle.types.specs.declared.error.ProducerError.TheVariants.{Closed, PartOutside, OverBound, OutboundFull, HeldFull, PendingFull}
 use Rattle.types.specs.declared.message.OutgoingMessage.{OutgoingMessage}
 use Rattle.types.specs.declared.way.Way.{Way}
 use Rattle.queue.specs.Send.{way_of, pushes, joins, is_too_large, message_in, within_bounds}
 use Rattle.plans.specs.declared.state.Core.{Core}
-use Rattle.plans.specs.declared.choose.SendPlan.{SendPlan}
-use Rattle.plans.specs.declared.choose.SendPlan.TheVariants.{Refuse, Go}
+use Rattle.types.specs.declared.error.ProducerError.{ProducerError}
 
 -- 4, 5 and 7 of a way
-abbrev pub allowed_way : Way → Core → SendPlan
+abbrev pub allowed_way : Way → Core → Result Way ProducerError
 allowed_way w c =
-    pick (nat_lt 1024 (c.rings.waiting + pushes w)) (Refuse OutboundFull)
-    (pick (joins w && nat_le 512 (min c.rings.held_len 512)) (Refuse HeldFull)
-    (pick (not (is_too_large w) && nat_le 256 (min c.rings.pending_len 256)) (Refuse PendingFull)
-    (Go w)))
+    pick (nat_lt 1024 (c.rings.waiting + pushes w)) (Err OutboundFull)
+    (pick (joins w && nat_le 512 (min c.rings.held_len 512)) (Err HeldFull)
+    (pick (not (is_too_large w) && nat_le 256 (min c.rings.pending_len 256)) (Err PendingFull)
+    (Ok w)))
 
-unfoldable pub chosen_within : OutgoingMessage → Core → SendPlan
+unfoldable pub chosen_within : OutgoingMessage → Core → Result Way ProducerError
 chosen_within m c = allowed_way (way_of c.settings m c.batch) c
 
-unfoldable pub chosen : ℕ → OutgoingMessage → ℕ → Core → SendPlan
+unfoldable pub chosen : ℕ → OutgoingMessage → ℕ → Core → Result Way ProducerError
 chosen n m reserved c =
-    pick c.settings.switches.closed (Refuse Closed)
-    (pick (not (message_in n m m.payload)) (Refuse PartOutside)
-    (pick (not (within_bounds m reserved)) (Refuse OverBound)
+    pick c.settings.switches.closed (Err Closed)
+    (pick (not (message_in n m m.payload)) (Err PartOutside)
+    (pick (not (within_bounds m reserved)) (Err OverBound)
     (chosen_within m c)))

@@ -1,5 +1,5 @@
 -- What one push does to the scalars, and what it stores. These mirror the code.
-use Rattle.std.specs.Prelude.{ℕ, false, pos}
+use Rattle.std.specs.Prelude.{ℕ, false, pos, None}
 use Rattle.laws.specs.Numbers.{add_sat}
 use Rattle.types.specs.Empty.{empty_name}
 use Rattle.types.specs.declared.batch.BatchContainer.{BatchContainer}
@@ -7,10 +7,7 @@ use Rattle.types.specs.declared.entry.Publish.{Publish}
 use Rattle.types.specs.declared.entry.Replay.TheVariants as replay
 use Rattle.types.specs.declared.frame.FrameRecord.{FrameRecord}
 use Rattle.types.specs.declared.frame.FrameKind.TheVariants as kind
-use Rattle.types.specs.declared.message.MaybePart.TheVariants as part
 use Rattle.types.specs.declared.message.SingleMessage.{SingleMessage}
-use Rattle.types.specs.declared.optional.MaybeBool.TheVariants as mark
-use Rattle.types.specs.declared.optional.MaybeU64.TheVariants as number
 use Rattle.queue.specs.Batch.{no_part, no_message, no_uuid, counted}
 use Rattle.queue.specs.Ids.{assigned}
 use Rattle.rules.specs.declared.rings.Rings.{Rings}
@@ -68,11 +65,11 @@ no_held =
       at = 0;
       single = record {
         payload = no_part;
-        partition_key = part.Absent;
-        ordering_key = part.Absent;
-        event_time = number.Absent;
-        null_value = mark.Absent;
-        null_partition_key = mark.Absent;
+        partition_key = None;
+        ordering_key = None;
+        event_time = None;
+        null_value = None;
+        null_partition_key = None;
       };
     }
 

@@ -1,11 +1,7 @@
 -- What the plans of the replays answer. These mirror the code.
-use Rattle.std.specs.Prelude.{ℕ, ◌+◌, min, Bool, true, not, nat_lt}
+use Rattle.std.specs.Prelude.{ℕ, ◌+◌, min, Bool, true, not, nat_lt, Err, Ok, Result}
 use Rattle.laws.specs.Choice.{pick}
 use Rattle.laws.specs.Numbers.{add_sat}
-use Rattle.types.specs.declared.answer.CountOutcome.{CountOutcome}
-use Rattle.types.specs.declared.answer.CountOutcome.TheVariants as count
-use Rattle.types.specs.declared.answer.Outcome.{Outcome}
-use Rattle.types.specs.declared.answer.Outcome.TheVariants as plain
 use Rattle.types.specs.declared.entry.OpSend.{OpSend}
 use Rattle.types.specs.declared.error.ProducerError.TheVariants.{OutboundFull, PendingFull, MalformedEntry}
 use Rattle.types.specs.declared.frame.FrameRecord.{FrameRecord}
@@ -14,6 +10,7 @@ use Rattle.rules.specs.Rings.{place_before}
 use Rattle.plans.specs.declared.delta.Accepted.{Accepted}
 use Rattle.plans.specs.declared.delta.Pushed.{Pushed}
 use Rattle.plans.specs.State.{core_rings}
+use Rattle.types.specs.declared.error.ProducerError.{ProducerError}
 
 -- a record of n frames before the first
 abbrev pub fronted_core : Bool → FrameRecord → ℕ → Core → Pushed
@@ -51,12 +48,12 @@ fronted_entry op c =
       entry = record { put = p.put; at = p.at; id = op.sequence_id.0; mark = 1; publish = op.publish };
     }
 
-abbrev pub replay_count : ℕ → Core → CountOutcome
-replay_count frames c = pick (nat_lt 1024 (c.rings.waiting + frames)) (count.Refused OutboundFull) (count.Count frames)
+abbrev pub replay_count : ℕ → Core → Result ℕ ProducerError
+replay_count frames c = pick (nat_lt 1024 (c.rings.waiting + frames)) (Err OutboundFull) (Ok frames)
 
 -- 12, then 7, then 4
-abbrev pub replay_answer : Bool → ℕ → ℕ → Core → Outcome
+abbrev pub replay_answer : Bool → ℕ → ℕ → Core → Result (Unit {0}) ProducerError
 replay_answer wellFormed entries frames c =
-    pick (not wellFormed) (plain.Refused MalformedEntry)
-    (pick (nat_lt 256 (entries + min c.rings.pending_len 256)) (plain.Refused PendingFull)
-    (pick (nat_lt 1024 (c.rings.waiting + frames)) (plain.Refused OutboundFull) plain.Done))
+    pick (not wellFormed) (Err MalformedEntry)
+    (pick (nat_lt 256 (entries + min c.rings.pending_len 256)) (Err PendingFull)
+    (pick (nat_lt 1024 (c.rings.waiting + frames)) (Err OutboundFull) (Ok tt)))

@@ -1,6 +1,6 @@
 -- What the plans of a send answer. The definition goes by the queue, these by the scalars and the records that are stored.
-use Rattle.std.specs.Prelude.{ℕ, ◌*◌, min, Bool, ℤ, pos}
-use Rattle.types.specs.declared.answer.SendDecision.TheVariants.{Emit, Batched, Refused}
+use Rattle.std.specs.Prelude.{ℕ, ◌*◌, min, Bool, ℤ, pos, Err, Ok, Result}
+use Rattle.types.specs.declared.answer.SendDecision.TheVariants.{Emit, Batched}
 use Rattle.types.specs.declared.entry.Publish.{Publish}
 use Rattle.types.specs.declared.entry.Replay.{Replay}
 use Rattle.types.specs.declared.entry.Replay.TheVariants as replay
@@ -13,8 +13,6 @@ use Rattle.types.specs.declared.way.Way.{Way}
 use Rattle.types.specs.declared.way.Way.TheVariants.{TooLarge, Join, Single, Chunked}
 use Rattle.queue.specs.Batch.{at_least_one, grown, single_of, is_full}
 use Rattle.plans.specs.declared.state.Core.{Core}
-use Rattle.plans.specs.declared.choose.SendPlan.{SendPlan}
-use Rattle.plans.specs.declared.choose.SendPlan.TheVariants.{Refuse, Go}
 use Rattle.plans.specs.declared.delta.FramePut.{FramePut}
 use Rattle.plans.specs.declared.delta.Pushed.{Pushed}
 use Rattle.plans.specs.declared.delta.SendDelta.{SendDelta}
@@ -82,13 +80,13 @@ chunked a size count c =
 -- ── after the flush before ──
 
 abbrev pub refused_by : ProducerError → Core → SendDelta
-refused_by e c = record { answer = Refused e; core = c; first = no_frame; second = no_frame; entry = no_entry; held = no_held }
+refused_by e c = record { answer = Err e; core = c; first = no_frame; second = no_frame; entry = no_entry; held = no_held }
 
 abbrev pub refused_large : Bool → Sending → Core → SendDelta
 refused_large before a c =
     let f = flushed_if before a.publish_time c in
     record {
-      answer = Refused (MessageTooLarge a.message.payload.len c.settings.limits.max_message_size);
+      answer = Err (MessageTooLarge a.message.payload.len c.settings.limits.max_message_size);
       core = f.core;
       first = f.frame;
       second = no_frame;
@@ -128,9 +126,9 @@ followed (Chunked before size count) a c = chunked_after before a size count c
 
 -- ── the plan ──
 
-abbrev pub plan_out : SendPlan → Sending → Core → SendDelta
-plan_out (Refuse e) a c = refused_by e c
-plan_out (Go w) a c = followed w a c
+abbrev pub plan_out : Result Way ProducerError → Sending → Core → SendDelta
+plan_out (Err e) a c = refused_by e c
+plan_out (Ok w) a c = followed w a c
 
 unfoldable pub planned : ℕ → Sending → Core → SendDelta
 planned n a c = plan_out (chosen n a.message a.reservation.bytes c) a c

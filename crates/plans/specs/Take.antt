@@ -1,7 +1,6 @@
 -- What the plan of a take answers. These mirror the code: what a reader must believe is in crate `queue`.
-use Rattle.std.specs.Prelude.{ℕ, ◌+◌, ◌-◌, ◌%◌, min, Bool}
+use Rattle.std.specs.Prelude.{ℕ, ◌+◌, ◌-◌, ◌%◌, min, Bool, Result}
 use Rattle.laws.specs.Choice.{pick}
-use Rattle.types.specs.declared.answer.Outcome.{Outcome}
 use Rattle.types.specs.declared.frame.FrameRecord.{FrameRecord}
 use Rattle.types.specs.declared.outbound.OutboundFrame.{OutboundFrame}
 use Rattle.rules.specs.declared.rings.Rings.{Rings}
@@ -12,6 +11,7 @@ use Rattle.frames.specs.After.{stays_of, record_after}
 use Rattle.plans.specs.declared.state.Core.{Core}
 use Rattle.plans.specs.declared.take.TakePlan.{TakePlan}
 use Rattle.plans.specs.State.{core_rings}
+use Rattle.types.specs.declared.error.ProducerError.{ProducerError}
 
 abbrev pub out_rings : ℕ → ℕ → ℕ → ℕ → ℕ → Rings → Rings
 out_rings head len waiting heldHead heldLen r =
@@ -38,7 +38,7 @@ rings_taken stays count r =
 abbrev pub core_taken : Bool → ℕ → Core → Core
 core_taken stays count c = core_rings (rings_taken stays count c.rings) c
 
-abbrev pub plan_with : Outcome → Core → FrameRecord → OutboundFrame → TakePlan
+abbrev pub plan_with : Result (Unit {0}) ProducerError → Core → FrameRecord → OutboundFrame → TakePlan
 plan_with answer core r frame = record { answer = answer; done = is_done answer; core = core; slot = r; frame = frame }
 
 abbrev pub take_planned : Core → FrameRecord → Span → ℕ → ℕ → TakePlan

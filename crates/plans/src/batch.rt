@@ -8,7 +8,6 @@ use crate::state::Core;
 use rules::batch::{can_add, is_batchable, makes_frame};
 use rules::blank::no_message;
 use rules::rings::too_many;
-use types::answer::CountOutcome;
 use types::batch::BatchContainer;
 use types::error::ProducerError;
 use types::frame::{BatchFrame, FrameKind, FrameRecord};
@@ -103,18 +102,18 @@ impl Core {
     }
 
     // Count 0 for an empty batch or a closed producer; 4 only where a frame would be made.
-    pub fn flush_answer(self) -> CountOutcome
+    pub fn flush_answer(self) -> Result<usize, ProducerError>
         ensures { result ≡ flush_answer self }
     {
         let b = self.batch;
         if b.len == 0 {
-            CountOutcome::Count(0)
+            Ok(0)
         } else if self.settings.switches.closed {
-            CountOutcome::Count(0)
+            Ok(0)
         } else if too_many(self.rings.waiting, 1) {
-            CountOutcome::Refused(ProducerError::OutboundFull)
+            Err(ProducerError::OutboundFull)
         } else {
-            CountOutcome::Count(1)
+            Ok(1)
         }
     }
 

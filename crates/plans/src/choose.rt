@@ -13,26 +13,26 @@ use types::way::Way;
 
 // What becomes of a send. One that 6 refuses goes its way, which may flush.
 #[derive(Clone, Copy)]
-pub enum SendPlan {
+pub enum Result<Way, ProducerError> {
     Refuse(ProducerError),
     Go(Way),
 }
 
 impl Core {
     // 4, 5 and 7.
-    fn choose_within(self, m: OutgoingMessage) -> SendPlan
+    fn choose_within(self, m: OutgoingMessage) -> Result<Way, ProducerError>
         requires { m.payload.len ≤ 16777216 }
         ensures { result ≡ chosen_within m self }
     {
         let w = self.way(m);
         if too_many(self.rings.waiting, frames_pushed(w)) {
-            SendPlan::Refuse(ProducerError::OutboundFull)
+            Err(ProducerError::OutboundFull)
         } else if held_full(w, self.rings.held_len) {
-            SendPlan::Refuse(ProducerError::HeldFull)
+            Err(ProducerError::HeldFull)
         } else if pending_full(w, self.rings.pending_len) {
-            SendPlan::Refuse(ProducerError::PendingFull)
+            Err(ProducerError::PendingFull)
         } else {
-            SendPlan::Go(w)
+            Ok(w)
         }
     }
 
@@ -42,15 +42,15 @@ impl Core {
         store_len: usize,
         m: OutgoingMessage,
         reservation: MemoryReservation,
-    ) -> SendPlan
+    ) -> Result<Way, ProducerError>
         ensures { result ≡ chosen store_len m reservation.bytes self }
     {
         if self.settings.switches.closed {
-            SendPlan::Refuse(ProducerError::Closed)
+            Err(ProducerError::Closed)
         } else if !message_in(store_len, m) {
-            SendPlan::Refuse(ProducerError::PartOutside)
+            Err(ProducerError::PartOutside)
         } else if !within_bounds(m, reservation) {
-            SendPlan::Refuse(ProducerError::OverBound)
+            Err(ProducerError::OverBound)
         } else {
             self.choose_within(m)
         }

@@ -2,16 +2,16 @@
 ghost use Rattle.std.specs.Prelude.{◌≡◌};
 ghost use Rattle.plans.specs.Delta.{no_frame, no_entry, no_held, accepted, pushed, held, counted_core};
 
+use types::error::ProducerError;
 use crate::state::Core;
 use rules::blank::no_message;
 use rules::numbers::{saturating_add, saturating_add_u64, wrapping_next};
 use rules::rings::{Ring, place_of};
-use types::answer::{CountOutcome, SendDecision};
+use types::answer::{SendDecision};
 use types::entry::{Publish, Replay};
 use types::frame::{FrameKind, FrameRecord, ProducerName};
 use types::memory_limit::MemoryReservation;
-use types::message::{MaybePart, Part, SingleMessage};
-use types::optional::{MaybeBool, MaybeU64};
+use types::message::{Part, SingleMessage};
 use types::signed::signed_of;
 use types::types::SequenceId;
 
@@ -55,7 +55,7 @@ pub struct SendDelta {
 // Of a flush.
 #[derive(Clone, Copy)]
 pub struct FlushDelta {
-    pub answer: CountOutcome,
+    pub answer: Result<usize, ProducerError>,
     pub core: Core,
     pub frame: FramePut,
 }
@@ -136,11 +136,11 @@ pub fn no_held() -> HeldPut
         at: 0,
         single: SingleMessage {
             payload: Part { start: 0, len: 0 },
-            partition_key: MaybePart::Absent,
-            ordering_key: MaybePart::Absent,
-            event_time: MaybeU64::Absent,
-            null_value: MaybeBool::Absent,
-            null_partition_key: MaybeBool::Absent,
+            partition_key: None,
+            ordering_key: None,
+            event_time: None,
+            null_value: None,
+            null_partition_key: None,
         },
     }
 }

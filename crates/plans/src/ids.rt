@@ -3,13 +3,12 @@ ghost use Rattle.std.specs.Prelude.{◌≡◌};
 ghost use Rattle.plans.specs.Ids.{with_initial_id, send_deadline_of, batch_deadline_of};
 
 use crate::state::Core;
-use types::optional::MaybeU64;
 use upkeep::deadline::{after, unless_none};
 use upkeep::stats::initial_ids;
 
 impl Core {
     // Of the front entry, which was sent at `enqueued_at`.
-    pub fn next_send_deadline(self, enqueued_at: u64) -> MaybeU64
+    pub fn next_send_deadline(self, enqueued_at: u64) -> Option<u64>
         ensures { result ≡ send_deadline_of self enqueued_at }
     {
         let settings = self.settings;
@@ -19,7 +18,7 @@ impl Core {
         unless_none(self.rings.pending_len, deadline)
     }
 
-    pub fn next_batch_deadline(self) -> MaybeU64
+    pub fn next_batch_deadline(self) -> Option<u64>
         ensures { result ≡ batch_deadline_of self }
     {
         let settings = self.settings;

@@ -6,7 +6,6 @@ use crate::delta::{Accepted, EntryPut, FramePut, Pushed};
 use crate::state::Core;
 use rules::numbers::saturating_add;
 use rules::rings::{Ring, place_before, too_many, too_many_pending};
-use types::answer::{CountOutcome, Outcome};
 use types::entry::OpSend;
 use types::error::ProducerError;
 use types::frame::FrameRecord;
@@ -62,30 +61,30 @@ impl Core {
     }
 
     // `replay_pending_outbound` is refused by 4 only.
-    pub fn replay_count(self, frames: usize) -> CountOutcome
+    pub fn replay_count(self, frames: usize) -> Result<usize, ProducerError>
         ensures { result ≡ replay_count frames self }
     {
         if too_many(self.rings.waiting, frames) {
-            CountOutcome::Refused(ProducerError::OutboundFull)
+            Err(ProducerError::OutboundFull)
         } else {
-            CountOutcome::Count(frames)
+            Ok(frames)
         }
     }
 
     // `replay_snapshots` is refused by 12, then 7, then 4.
-    pub fn replay_answer(self, well_formed: bool, entries: usize, frames: usize) -> Outcome
+    pub fn replay_answer(self, well_formed: bool, entries: usize, frames: usize) -> Result<(), ProducerError>
         ensures { result ≡ replay_answer well_formed entries frames self }
     {
         let pending_full = too_many_pending(self.rings.pending_len, entries);
         let outbound_full = too_many(self.rings.waiting, frames);
         if !well_formed {
-            Outcome::Refused(ProducerError::MalformedEntry)
+            Err(ProducerError::MalformedEntry)
         } else if pending_full {
-            Outcome::Refused(ProducerError::PendingFull)
+            Err(ProducerError::PendingFull)
         } else if outbound_full {
-            Outcome::Refused(ProducerError::OutboundFull)
+            Err(ProducerError::OutboundFull)
         } else {
-            Outcome::Done
+            Ok(())
         }
     }
 }

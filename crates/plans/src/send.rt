@@ -2,7 +2,6 @@
 ghost use Rattle.std.specs.Prelude.{◌≡◌};
 ghost use Rattle.plans.specs.Send.{publish_of, frame_of, emitted, singled, joined, chunked, emitted_after, refused_by, refused_large, joined_after, singled_after, chunked_after, followed, planned};
 
-use crate::choose::SendPlan;
 use crate::delta::{EntryPut, FramePut, HeldPut, SendDelta, no_entry, no_frame, no_held};
 use crate::state::Core;
 use rules::batch::{single_of, with_message};
@@ -191,7 +190,7 @@ impl Core {
         let entry = no_entry();
         let held = no_held();
         SendDelta {
-            answer: SendDecision::Refused(e),
+            answer: Err(e),
             core: self,
             first: none,
             second: none,
@@ -211,7 +210,7 @@ impl Core {
         let entry = no_entry();
         let held = no_held();
         SendDelta {
-            answer: SendDecision::Refused(ProducerError::MessageTooLarge {
+            answer: Err(ProducerError::MessageTooLarge {
                 size: a.message.payload.len,
                 max_message_size: self.settings.limits.max_message_size,
             }),
@@ -290,8 +289,8 @@ impl Core {
         let reservation = a.reservation;
         let plan = self.choose(store_len, message, reservation);
         match plan {
-            SendPlan::Refuse(e) => self.refuse(e),
-            SendPlan::Go(w) => self.follow(w, a),
+            Err(e) => self.refuse(e),
+            Ok(w) => self.follow(w, a),
         }
     }
 }

@@ -3,14 +3,13 @@ ghost use Rattle.std.specs.Prelude.{◌≡◌};
 ghost use Rattle.plans.specs.Settings.{set_planned, name_planned, closed_core};
 
 use crate::state::Core;
-use types::answer::Outcome;
 use types::error::ProducerError;
 use types::settings::Setting;
 use upkeep::settings::{allows, allows_name, closed_settings, name_from, with_setting};
 
 #[derive(Clone, Copy)]
 pub struct SetPlan {
-    pub answer: Outcome,
+    pub answer: Result<(), ProducerError>,
     pub core: Core,
 }
 
@@ -24,12 +23,12 @@ impl Core {
             settings.name = n;
             self.settings = settings;
             SetPlan {
-                answer: Outcome::Done,
+                answer: Ok(()),
                 core: self,
             }
         } else {
             SetPlan {
-                answer: Outcome::Refused(ProducerError::SettingOverBound),
+                answer: Err(ProducerError::SettingOverBound),
                 core: self,
             }
         }
@@ -43,12 +42,12 @@ impl Core {
             let settings = with_setting(t, s);
             self.settings = settings;
             SetPlan {
-                answer: Outcome::Done,
+                answer: Ok(()),
                 core: self,
             }
         } else {
             SetPlan {
-                answer: Outcome::Refused(ProducerError::SettingOverBound),
+                answer: Err(ProducerError::SettingOverBound),
                 core: self,
             }
         }

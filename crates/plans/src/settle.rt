@@ -2,10 +2,10 @@
 ghost use Rattle.std.specs.Prelude.{◌≡◌};
 ghost use Rattle.plans.specs.Settle.{core_without, core_published};
 
+use types::error::ProducerError;
 use crate::state::Core;
 use rules::numbers::{at_most, saturating_sub};
 use rules::rings::head_after;
-use types::answer::Outcome;
 use upkeep::stats::published_ids;
 
 impl Core {
@@ -22,7 +22,7 @@ impl Core {
     }
 
     // A receipt's id becomes the published number, unless the receipt was refused.
-    pub fn published(mut self, answer: Outcome, id: u64) -> Core
+    pub fn published(mut self, answer: Result<(), ProducerError>, id: u64) -> Core
         ensures { result ≡ core_published answer id self }
     {
         let ids = self.ids;

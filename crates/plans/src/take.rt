@@ -2,19 +2,19 @@
 ghost use Rattle.std.specs.Prelude.{◌≡◌};
 ghost use Rattle.plans.specs.Take.{core_taken, take_planned};
 
+use types::error::ProducerError;
 use crate::state::Core;
 use frames::after::{record_after, stays};
 use frames::answer::{answer_of, is_done};
 use frames::outbound::frame_of;
 use frames::span::Span;
 use rules::numbers::{at_most, saturating_sub};
-use types::answer::Outcome;
 use types::frame::FrameRecord;
 use types::outbound::OutboundFrame;
 
 #[derive(Clone, Copy)]
 pub struct TakePlan {
-    pub answer: Outcome,
+    pub answer: Result<(), ProducerError>,
     // Whether the frame goes out. On a refusal what follows means nothing.
     pub done: bool,
     pub core: Core,

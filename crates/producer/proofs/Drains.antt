@@ -1,18 +1,14 @@
 -- Drains: what is planned is what the definitions hand out, and the state without it stands for their queue. Assumes nothing.
+use Rattle.std.specs.Prelude.{Err, None, Ok, Option, Some, ℕ}
 use Rattle.std.proofs.Common.{◌≡◌, ℕ, suc, ◌-◌, ◌<◌, ◌≤◌, min, Bool, true, false, ltb, List, [], ◌∷◌, map, length, take, drop, sym, refl, ap, ◌∙◌, subst, zero-le, arith, lit<, length-take-le, take_all, take-take, take_at, le-ltb, lt-ltb}
-use mathlib.Core.Option.{Option}
 use native.Mathlib.Decide.{dec_lt}
 use Rattle.laws.specs.Choice.{pick}
 use Rattle.laws.specs.Ring.{ring, slot}
 use Rattle.laws.proofs.Lists.{map_drop}
 use Rattle.laws.proofs.Rings.{ring_none, ring_map, ring_drops}
-use Rattle.types.specs.Values.{num_of}
-use Rattle.types.specs.declared.answer.CountOutcome.TheVariants as count
 use Rattle.types.specs.declared.entry.OpSend.{OpSend}
 use Rattle.types.specs.declared.entry.Publish.{Publish}
 use Rattle.types.specs.declared.error.ProducerError.TheVariants.{TooShort}
-use Rattle.types.specs.declared.optional.MaybeU64.{MaybeU64}
-use Rattle.types.specs.declared.optional.MaybeU64.TheVariants.{Absent, Present}
 use Rattle.queue.specs.Queue.{Queue, refused, done, empty_outgoing, with_pending, with_out}
 use Rattle.queue.specs.Ids.{elapsed, send_deadline}
 use Rattle.queue.specs.Settle.{due_count, unmark, unmark_all, hand_out, drain_timed_out_sends, table_after}
@@ -40,29 +36,29 @@ due_most time timeout (op ∷ l) = go (elapsed time (send_deadline timeout op)) 
     go true h = omega arith
     go false h = omega arith
 
-abbrev count_of : MaybeU64 → Queue → ℕ
-count_of due q = gone_count due (num_of q.settings.delays.send_timeout) q.pending
+abbrev count_of : Option ℕ → Queue → ℕ
+count_of due q = gone_count due q.settings.delays.send_timeout q.pending
 
-count_most : (due : MaybeU64) (q : Queue) → count_of due q ≤ length q.pending
-count_most Absent q = omega arith
-count_most (Present time) q = due_most time (num_of q.settings.delays.send_timeout) q.pending
+count_most : (due : Option ℕ) (q : Queue) → count_of due q ≤ length q.pending
+count_most None q = omega arith
+count_most (Some time) q = due_most time q.settings.delays.send_timeout q.pending
 
-gone_is : (due : MaybeU64) (q : Queue) → take (count_of due q) q.pending ≡ gone_of due q
-gone_is Absent q = take_all (length q.pending) q.pending (omega arith)
-gone_is (Present time) q = refl
+gone_is : (due : Option ℕ) (q : Queue) → take (count_of due q) q.pending ≡ gone_of due q
+gone_is None q = take_all (length q.pending) q.pending (omega arith)
+gone_is (Some time) q = refl
 
-timeout_is : (s : ProducerState) → num_of s.core.settings.delays.send_timeout ≡ num_of (view s).settings.delays.send_timeout
+timeout_is : (s : ProducerState) → s.core.settings.delays.send_timeout ≡ (view s).settings.delays.send_timeout
 unfolding view
 timeout_is s = refl
 
 -- what is planned, against the view
-record Plans (due : MaybeU64) (room : ℕ) (s : ProducerState) (es : List OpSend) (p : Handout) : Type 0 where
+record Plans (due : Option ℕ) (room : ℕ) (s : ProducerState) (es : List OpSend) (p : Handout) : Type 0 where
   gone : take p.count es ≡ gone_of due (view s)
   many : p.count ≡ length (gone_of due (view s))
   few : p.count ≤ 256
   fits : p.write ≡ pick (ltb room p.count) 0 p.count
 
-module _ (s : ProducerState) (f : Full s) (due : MaybeU64) (room : ℕ) (es : List OpSend) (p : Handout)
+module _ (s : ProducerState) (f : Full s) (due : Option ℕ) (room : ℕ) (es : List OpSend) (p : Handout)
     (e : take (min s.core.rings.pending_len 256) es ≡ (view s).pending) (h : p ≡ plan_of due es room s) where
   plans : Plans due room s es p
   plans =
@@ -115,20 +111,20 @@ length_each (op ∷ gone) is ms a b =
     length_each gone is (cleared_all op.sequence_id.0 is ms) a (length_cleared op.sequence_id.0 256 is ms a b)
 
 -- the queue that a drain leaves
-abbrev left_of : MaybeU64 → Queue → Queue
-left_of Absent q = with_out empty_outgoing (with_pending [] q)
-left_of (Present time) q =
-    with_pending (unmark_all (gone_of (Present time) q) (drop (count_of (Present time) q) q.pending)) q
+abbrev left_of : Option ℕ → Queue → Queue
+left_of None q = with_out empty_outgoing (with_pending [] q)
+left_of (Some time) q =
+    with_pending (unmark_all (gone_of (Some time) q) (drop (count_of (Some time) q) q.pending)) q
 
-drain_is : (due : MaybeU64) (room : ℕ) (q : Queue) → drain_of due room q ≡ hand_out room (gone_of due q) q (left_of due q)
+drain_is : (due : Option ℕ) (room : ℕ) (q : Queue) → drain_of due room q ≡ hand_out room (gone_of due q) q (left_of due q)
 unfolding drain_pending_sends drain_timed_out_sends
-drain_is Absent room q = refl
-drain_is (Present time) room q = refl
+drain_is None room q = refl
+drain_is (Some time) room q = refl
 
-left_view : (s : ProducerState) → Full s → (due : MaybeU64) (es : List OpSend) (p : Handout) → take p.count es ≡ gone_of due (view s)
+left_view : (s : ProducerState) → Full s → (due : Option ℕ) (es : List OpSend) (p : Handout) → take p.count es ≡ gone_of due (view s)
     → p.count ≡ count_of due (view s) → view (drained_state due es p s) ≡ left_of due (view s)
 unfolding view
-left_view s f Absent es p e k =
+left_view s f None es p e k =
     let c = s.core in
     let r = c.rings in
     λ j.
@@ -137,7 +133,7 @@ left_view s f Absent es p e k =
       settings = c.settings;
       ids = c.ids;
       counters = c.counters;
-      pending = ring_none 256 (slots_of (drained_state Absent es p s)) r.pending_head j;
+      pending = ring_none 256 (slots_of (drained_state None es p s)) r.pending_head j;
       out = record {
         frames = ring_none 1024 s.outbound r.outbound_head j;
         waiting = 0;
@@ -145,10 +141,10 @@ left_view s f Absent es p e k =
         batch = empty_outgoing.batch;
       };
     }
-left_view s f (Present time) es p e k =
+left_view s f (Some time) es p e k =
     let c = s.core in
     let r = c.rings in
-    let due : MaybeU64 = Present time in
+    let due : Option ℕ = Some time in
     let h : ℕ = r.pending_head in
     let n : ℕ = r.pending_len in
     let gone : List OpSend = take p.count es in
@@ -165,7 +161,7 @@ left_view s f (Present time) es p e k =
 
 -- ── the call ──
 
-pub drains : (s : ProducerState) → Full s → (due : MaybeU64) (ys zs es : List OpSend) (p : Handout) (r : CountAnswer)
+pub drains : (s : ProducerState) → Full s → (due : Option ℕ) (ys zs es : List OpSend) (p : Handout) (r : CountAnswer)
     → take (min s.core.rings.pending_len 256) es ≡ (view s).pending → p ≡ plan_of due es (length ys) s → zs ≡ table_after (take p.write es) ys → r ≡ drained_to due es p s → Drains due s ys r zs
 drains s f due ys zs es p r listed planned z e = subst (λ (x : CountAnswer). Drains due s ys x zs) (sym e) (go (dec_lt (length ys) p.count))
   where
@@ -181,7 +177,7 @@ drains s f due ys zs es p r listed planned z e = subst (λ (x : CountAnswer). Dr
         let t : ltb p.write p.count ≡ true = lt-ltb p.write p.count (omega (arith, w)) in
         let short : ltb (length ys) (length gone) ≡ true = lt-ltb (length ys) (length gone) (omega (arith, pl.many)) in
         let zy : zs ≡ ys = z ∙ ap (λ (j : ℕ). table_after (take j es) ys) w in
-        subst (λ (b : Bool). Drains due s ys (pick b (record { answer = count.Refused TooShort; state = s }) (record { answer = count.Count p.count; state = drained_state due es p s })) zs) (sym t)
+        subst (λ (b : Bool). Drains due s ys (pick b (record { answer = Err TooShort; state = s }) (record { answer = Ok p.count; state = drained_state due es p s })) zs) (sym t)
         (sym (drain_is due (length ys) (view s) ∙ ap (λ (b : Bool). pick b (view s, refused 9 []) (left_of due (view s), done gone)) short), zy, refl)
     go (no h) =
         let w : p.write ≡ p.count = pl.fits ∙ ap (λ (b : Bool). pick b 0 p.count) (le-ltb (length ys) p.count (omega arith)) in
@@ -192,7 +188,7 @@ drains s f due ys zs es p r listed planned z e = subst (λ (x : CountAnswer). Dr
         ap (take p.count) zg ∙ take_at gone (drop (length gone) ys) p.count (sym pl.many) in
         let k : p.count ≡ count_of due (view s) =
         pl.many ∙ ap length (sym (gone_is due (view s))) ∙ length-take-le (count_of due (view s)) (view s).pending (count_most due (view s)) in
-        subst (λ (b : Bool). Drains due s ys (pick b (record { answer = count.Refused TooShort; state = s }) (record { answer = count.Count p.count; state = drained_state due es p s })) zs) (sym t) (
+        subst (λ (b : Bool). Drains due s ys (pick b (record { answer = Err TooShort; state = s }) (record { answer = Ok p.count; state = drained_state due es p s })) zs) (sym t) (
           (λ j. (left_view s f due es p pl.gone k j, done (back j)))
               ∙ sym (drain_is due (length ys) (view s) ∙ ap (λ (b : Bool). pick b (view s, refused 9 []) (left_of due (view s), done gone)) room),
           zg ∙ ap (λ (l : List OpSend). table_after l ys) (sym back),

@@ -1,16 +1,15 @@
 -- A flush: the stores of its plan make the queue of the definition. Assumes nothing.
+use Rattle.std.specs.Prelude.{Err, Ok, Result, ℕ}
 use Rattle.std.proofs.Common.{◌≡◌, ℕ, ◌+◌, ◌<◌, Bool, true, false, ltb, refl, ap, lit<}
 use Rattle.laws.specs.Choice.{pick}
 use Rattle.laws.proofs.Slots.{slot_below}
 use Rattle.types.specs.Empty.{empty_batch}
-use Rattle.types.specs.declared.answer.CountOutcome.{CountOutcome}
-use Rattle.types.specs.declared.answer.CountOutcome.TheVariants.{Count, Refused}
 use Rattle.types.specs.declared.batch.BatchContainer.{BatchContainer}
 use Rattle.types.specs.declared.error.ProducerError.TheVariants.{OutboundFull}
 use Rattle.queue.specs.Queue.{Queue, Outcome, done, refuse, with_out}
 use Rattle.queue.specs.Batch.{batch_record, with_batch, is_empty, flushed, flush_batch}
 use Rattle.queue.specs.Send.{flush_if}
-use Rattle.queue.specs.Told.{told_count, Kept}
+use Rattle.queue.specs.Told.{told, Kept}
 use Rattle.plans.specs.Delta.{counted_core}
 use Rattle.rules.specs.Batch.{makes_frame}
 use Rattle.plans.specs.Batch.{flushed_core, flushed_if, flush_answer, flush_of, flush_planned}
@@ -22,6 +21,7 @@ use Rattle.producer.specs.Apply.{store_core, store_frame}
 use Rattle.producer.specs.declared.state.ProducerState.{ProducerState}
 use Rattle.producer.proofs.Full.{Full, full_core, full_frame}
 use Rattle.producer.proofs.Views.{pushes}
+use Rattle.types.specs.declared.error.ProducerError.{ProducerError}
 
 -- the queue with another open batch
 abbrev pub batching : BatchContainer → Queue → Queue
@@ -48,7 +48,7 @@ module _ (s : ProducerState) (f : Full s) (t : ℕ) where
 
   -- what a plan of a flush says of the state that it is applied to
   abbrev pub Flushes : FlushDelta → ProducerState → Outcome ℕ → Type 0
-  Flushes d r o = ◌≡◌ {A = Outcome ℕ} (view r, told_count d.answer) o × Kept (told_count d.answer) s r
+  Flushes d r o = ◌≡◌ {A = Outcome ℕ} (view r, told d.answer) o × Kept (told d.answer) s r
 
   abbrev pub stored : FlushDelta → ProducerState
   stored d = store_frame d.frame (store_core d.core s)
@@ -57,12 +57,12 @@ module _ (s : ProducerState) (f : Full s) (t : ℕ) where
   unfolding flush_batch view
   plan_flushes = go (is_empty s.core.batch) s.core.settings.switches.closed (ltb 1024 (s.core.rings.waiting + 1))
     where
-      of : CountOutcome → FlushDelta
+      of : Result ℕ ProducerError → FlushDelta
       of answer = flush_of answer t s.core
 
       go : (b1 b2 b3 : Bool)
-          → Flushes (of (pick b1 (Count 0) (pick b2 (Count 0) (pick b3 (Refused OutboundFull) (Count 1)))))
-          (stored (of (pick b1 (Count 0) (pick b2 (Count 0) (pick b3 (Refused OutboundFull) (Count 1))))))
+          → Flushes (of (pick b1 (Ok 0) (pick b2 (Ok 0) (pick b3 (Err OutboundFull) (Ok 1)))))
+          (stored (of (pick b1 (Ok 0) (pick b2 (Ok 0) (pick b3 (Err OutboundFull) (Ok 1))))))
           (pick b1 (view s, done 0) (pick b2 (view s, done 0) (pick b3 (refuse 4 (view s)) (flushed t (view s), done 1))))
       go true b2 b3 = (refl, tt)
       go false true b3 = (refl, tt)

@@ -1,15 +1,12 @@
 -- Deadlines and counts of the scalars are those of the queue. Assumes nothing.
+use Rattle.std.specs.Prelude.{None, Option, Some, ℕ}
 use Rattle.std.proofs.Common.{◌≡◌, ℕ, ◌%◌, ◌<◌, Bool, true, false, eqb, length, get_or, sym, refl, ap, ◌∙◌, arith, lit<, eq-eqb, ne_eqb}
-use mathlib.Core.Option.{Option, none}
 use native.Mathlib.Decide.{dec_lt}
 use Rattle.laws.specs.Choice.{pick}
 use Rattle.laws.specs.Ring.{ring, slot}
 use Rattle.laws.proofs.Choice.{pick_true, pick_false}
 use Rattle.laws.proofs.Rings.{ring_pop, ring_none}
 use Rattle.laws.proofs.Slots.{slot_zero, slot_below}
-use Rattle.types.specs.Values.{num_of}
-use Rattle.types.specs.declared.optional.MaybeU64.{MaybeU64}
-use Rattle.types.specs.declared.optional.MaybeU64.TheVariants.{Absent, Present}
 use Rattle.types.specs.declared.entry.OpSend.{OpSend}
 use Rattle.types.specs.declared.entry.Publish.{Publish}
 use Rattle.queue.specs.Ids.{after, elapsed, front_deadline, next_send_deadline, next_batch_deadline, batch_deadline_elapsed}
@@ -21,28 +18,28 @@ use Rattle.producer.proofs.Blank.{blank}
 use Rattle.producer.proofs.Entries.{entries_at}
 use Rattle.producer.proofs.Full.{Full, slots}
 
-num_after : (delay : MaybeU64) (time : ℕ) → num_of (maybe_after delay time) ≡ after (num_of delay) time
-num_after Absent time = refl
-num_after (Present d) time = refl
+num_after : (delay : Option ℕ) (time : ℕ) → (maybe_after delay time) ≡ after delay time
+num_after None time = refl
+num_after (Some d) time = refl
 
-num_unless : (n : ℕ) (x : MaybeU64) → num_of (unless_none n x) ≡ pick (eqb n 0) none (num_of x)
+num_unless : (n : ℕ) (x : Option ℕ) → (unless_none n x) ≡ pick (eqb n 0) None x
 num_unless n x = go (eqb n 0)
   where
-    go : (b : Bool) → num_of (pick b Absent x) ≡ pick b none (num_of x)
+    go : (b : Bool) → (pick b None x) ≡ pick b None x
     go true = refl
     go false = refl
 
-pub batch_deadline_lem : (s : ProducerState) → num_of (batch_deadline_of s.core) ≡ next_batch_deadline (view s)
+pub batch_deadline_lem : (s : ProducerState) → (batch_deadline_of s.core) ≡ next_batch_deadline (view s)
 unfolding next_batch_deadline view
 batch_deadline_lem s =
     let c = s.core in
     let delay = c.settings.delays.batching_max_publish_delay in
     num_unless c.batch.len (maybe_after delay c.batch.first_added_at)
-    ∙ ap (λ (o : Option ℕ). pick (eqb c.batch.len 0) none o) (num_after delay c.batch.first_added_at)
+    ∙ ap (λ (o : Option ℕ). pick (eqb c.batch.len 0) None o) (num_after delay c.batch.first_added_at)
 
-has_elapsed_lem : (now : ℕ) (d : MaybeU64) → has_elapsed now d ≡ elapsed now (num_of d)
-has_elapsed_lem now Absent = refl
-has_elapsed_lem now (Present d) = refl
+has_elapsed_lem : (now : ℕ) (d : Option ℕ) → has_elapsed now d ≡ elapsed now d
+has_elapsed_lem now None = refl
+has_elapsed_lem now (Some d) = refl
 
 pub batch_elapsed_lem : (s : ProducerState) (now : ℕ) → has_elapsed now (batch_deadline_of s.core) ≡ batch_deadline_elapsed now (view s)
 unfolding batch_deadline_elapsed
@@ -50,11 +47,11 @@ batch_elapsed_lem s now = has_elapsed_lem now (batch_deadline_of s.core) ∙ ap 
 
 -- the front entry's deadline
 pub send_deadline_lem : (s : ProducerState) → Full s → (d : Publish)
-    → num_of (send_deadline_of s.core (get_or s.pending (s.core.rings.pending_head % 256) d).enqueued_at) ≡ next_send_deadline (view s)
+    → (send_deadline_of s.core (get_or s.pending (s.core.rings.pending_head % 256) d).enqueued_at) ≡ next_send_deadline (view s)
 unfolding next_send_deadline view
 send_deadline_lem s f d =
     num_unless n (maybe_after timeout sent)
-    ∙ ap (λ (o : Option ℕ). pick (eqb n 0) none o) (num_after timeout sent)
+    ∙ ap (λ (o : Option ℕ). pick (eqb n 0) None o) (num_after timeout sent)
     ∙ go (dec_lt 0 n)
   where
     n : ℕ
@@ -63,13 +60,13 @@ send_deadline_lem s f d =
     h : ℕ
     h = s.core.rings.pending_head
 
-    timeout : MaybeU64
+    timeout : Option ℕ
     timeout = s.core.settings.delays.send_timeout
 
     sent : ℕ
     sent = (get_or s.pending (h % 256) d).enqueued_at
 
-    go : Dec (0 < n) → pick (eqb n 0) none (after (num_of timeout) sent) ≡ front_deadline (num_of timeout) (ring 256 (slots_of s) h n)
+    go : Dec (0 < n) → pick (eqb n 0) None (after timeout sent) ≡ front_deadline timeout (ring 256 (slots_of s) h n)
     go (yes b) =
         let at = slot 256 h 0 in
         let below = slot_below 256 h 0 (lit< tt) in
@@ -79,11 +76,11 @@ send_deadline_lem s f d =
         let entry =
         entries_at s.pending_ids s.pending_marks s.pending at d blank li lm lp
         ∙ ap (λ (k : ℕ). entry_of (get_or s.pending_ids at 0) (get_or s.pending_marks at 0) (get_or s.pending k d)) (slot_zero 256 h) in
-        pick_false none (after (num_of timeout) sent) (ne_eqb n 0 (λ z. omega arith))
+        pick_false None (after timeout sent) (ne_eqb n 0 (λ z. omega arith))
         ∙ sym
-        (ap (front_deadline (num_of timeout)) (ring_pop 256 (lit< tt) (slots_of s) (slots s f) blank h n (omega arith))
-        ∙ ap (λ (op : OpSend). after (num_of timeout) op.publish.enqueued_at) entry)
+        (ap (front_deadline timeout) (ring_pop 256 (lit< tt) (slots_of s) (slots s f) blank h n (omega arith))
+        ∙ ap (λ (op : OpSend). after timeout op.publish.enqueued_at) entry)
     go (no b) =
         let z : n ≡ 0 = omega arith in
-        pick_true none (after (num_of timeout) sent) (eq-eqb n 0 z)
-        ∙ sym (ap (front_deadline (num_of timeout)) (ap (ring 256 (slots_of s) h) z ∙ ring_none 256 (slots_of s) h))
+        pick_true None (after timeout sent) (eq-eqb n 0 z)
+        ∙ sym (ap (front_deadline timeout) (ap (ring 256 (slots_of s) h) z ∙ ring_none 256 (slots_of s) h))

@@ -1,6 +1,6 @@
 -- A run of the code has the view, the frames and the accepted messages of the run of definitions, by induction over its calls. Assumes nothing.
+use Rattle.std.specs.Prelude.{Some}
 use Rattle.std.proofs.Common.{◌≡◌, ℕ, List, ◌++◌, sym, refl, ap, ◌∙◌, subst}
-use mathlib.Core.Option.{some}
 use Rattle.queue.specs.Queue.{Queue, Outcome, new_queue}
 use Rattle.queue.specs.Frame.{Frame}
 use Rattle.queue.specs.Message.{Message}
@@ -37,4 +37,4 @@ code_in_order store handle cs s u frames waiting messages new run premises waits
     subst (λ (q : Queue). AsRun store q cs u frames messages) new (as_run store run) in
     let o = order_rule store handle cs premises in
     let w : waiting ≡ o.waiting = o.only waiting (subst (λ (q : Queue). Waiting store q waiting) r.state waits) in
-    (λ j. read (r.frames j ++ w j)) ∙ o.reads ∙ ap some (sym r.messages)
+    (λ j. read (r.frames j ++ w j)) ∙ o.reads ∙ ap Some (sym r.messages)

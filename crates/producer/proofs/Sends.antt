@@ -1,4 +1,5 @@
 -- A send: the stores of its plan make the queue of the definition, and its answer is the definition's. Each way is a run of pushes. Assumes nothing.
+use Rattle.std.specs.Prelude.{Err, Ok, Result}
 use Rattle.std.proofs.Common.{◌≡◌, ℕ, ◌+◌, ◌*◌, min, Bool, true, false, not, ◌&&◌, ltb, leb, length, pos, sym, refl, ap, ◌∙◌, subst, lit<}
 use Rattle.laws.specs.Choice.{pick}
 use Rattle.laws.specs.Numbers.{add_sat}
@@ -20,8 +21,6 @@ use Rattle.plans.specs.Batch.{flushed_if}
 use Rattle.plans.specs.Choose.{chosen, chosen_within}
 use Rattle.plans.specs.Send.{publish_of, frame_of, emitted, singled, joined, chunked, refused_large, joined_after, followed, plan_out, planned}
 use Rattle.plans.specs.declared.state.Core.{Core}
-use Rattle.plans.specs.declared.choose.SendPlan.{SendPlan}
-use Rattle.plans.specs.declared.choose.SendPlan.TheVariants.{Refuse, Go}
 use Rattle.plans.specs.declared.delta.SendDelta.{SendDelta}
 use Rattle.plans.specs.declared.send.Sending.{Sending}
 use Rattle.plans.specs.declared.send.Emitted.{Emitted}
@@ -33,6 +32,7 @@ use Rattle.producer.specs.declared.state.ProducerState.{ProducerState}
 use Rattle.producer.proofs.Full.{Full, full_core, full_entry, full_held}
 use Rattle.producer.proofs.Views.{holding, pushes, holds, accepts, held_length, pending_length}
 use Rattle.producer.proofs.Flushes.{batching, after, flushes_if, full_flushed_lem, flush_place}
+use Rattle.types.specs.declared.error.ProducerError.{ProducerError}
 
 -- what the definition calls a sending
 abbrev pub brought : Sending → send.Sending
@@ -201,13 +201,13 @@ module _ (s : ProducerState) (f : Full s) (a : Sending) where
   chain : (b1 b2 b3 b4 b5 b6 b7 : Bool) (w : Way) → Follows w
       → Sends
       (plan_out
-      (pick b1 (Refuse Closed)
-      (pick b2 (Refuse PartOutside)
-      (pick b3 (Refuse OverBound)
-      (pick b4 (Refuse OutboundFull)
-      (pick b5 (Refuse HeldFull)
-      (pick (not b6 && b7) (Refuse PendingFull)
-      (Go w)))))))
+      (pick b1 (Err Closed)
+      (pick b2 (Err PartOutside)
+      (pick b3 (Err OverBound)
+      (pick b4 (Err OutboundFull)
+      (pick b5 (Err HeldFull)
+      (pick (not b6 && b7) (Err PendingFull)
+      (Ok w)))))))
       a
       s.core)
       (send.carried_out (brought a) (view s)
@@ -282,9 +282,9 @@ in_way (Chunked before size count) a c =
       held = lit< tt;
     }
 
-in_plan : (p : SendPlan) (a : Sending) (c : Core) → InRange (plan_out p a c)
-in_plan (Refuse e) a c = record { first = lit< tt; second = lit< tt; entry = lit< tt; held = lit< tt }
-in_plan (Go w) a c = in_way w a c
+in_plan : (p : Result Way ProducerError) (a : Sending) (c : Core) → InRange (plan_out p a c)
+in_plan (Err e) a c = record { first = lit< tt; second = lit< tt; entry = lit< tt; held = lit< tt }
+in_plan (Ok w) a c = in_way w a c
 
 pub in_range : (n : ℕ) (a : Sending) (c : Core) → InRange (planned n a c)
 unfolding planned

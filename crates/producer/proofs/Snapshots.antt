@@ -1,10 +1,10 @@
 -- The snapshot: what is planned is what the definitions hand out, and the state after it stands for their queue. Assumes nothing.
+use Rattle.std.specs.Prelude.{Err, Ok}
 use Rattle.std.proofs.Common.{◌≡◌, ℕ, ◌<◌, ◌≤◌, Bool, true, false, not, ◌&&◌, ◌||◌, ltb, leb, List, [], ◌∷◌, length, take, drop, sym, refl, ap, ◌∙◌, subst, zero-le, arith, take_at, le-ltb, lt-ltb, le-leb, leb-true}
 use native.Mathlib.Decide.{dec_lt}
 use borrow.Author.Tests.{lt-leb}
 use Rattle.laws.specs.Choice.{pick}
 use Rattle.laws.proofs.Rings.{ring_none}
-use Rattle.types.specs.declared.answer.Outcome.TheVariants.{Done, Refused}
 use Rattle.types.specs.declared.entry.OpSend.{OpSend}
 use Rattle.types.specs.declared.error.ProducerError.TheVariants.{TooShort}
 use Rattle.types.specs.declared.settings.Setting.TheVariants.{BrokerReady}
@@ -163,7 +163,7 @@ snaps s ds rs zs us es fs p r de fe pe z u e =
     made : Bool → SnapshotAnswer
     made b =
         record {
-          answer = pick b Done (Refused TooShort);
+          answer = pick b (Ok tt) (Err TooShort);
           dropped = length d;
           replay = length f;
           state = pick b (store_core (core_snapshot (length d) s.core) s) s;

@@ -1,7 +1,7 @@
 -- A take, from the plan to the queue of the definitions: the frame that the plan answers is the first of the front record, and the
 -- state after it has the rest. Assumes nothing.
+use Rattle.std.specs.Prelude.{Err, None, Ok, Result, Some}
 use Rattle.std.proofs.Common.{◌≡◌, ℕ, ◌+◌, ◌-◌, ◌*◌, ◌%◌, ◌^◌, ◌<◌, ◌≤◌, min, Bool, true, false, ◌&&◌, ltb, leb, List, [], ◌∷◌, ◌++◌, length, get_or, take, drop, set, sym, refl, ap, ◌∙◌, subst, add-zero, zero-add, arith, lit<, length-drop, length-set, length-take-le, take_all, take_at, ltb-false, le-ltb, lt-ltb, eq-eqb, ne_eqb, leb-true}
-use mathlib.Core.Option.{some, none}
 use native.Mathlib.Decide.{dec_lt}
 use Rattle.laws.specs.Choice.{pick}
 use Rattle.laws.specs.Numbers.{add_sat}
@@ -9,9 +9,7 @@ use Rattle.laws.specs.Ring.{ring, slot}
 use Rattle.laws.proofs.Choice.{pick_true, pick_false}
 use Rattle.laws.proofs.Rings.{length_ring, ring_set, ring_take, ring_drop, ring_drops, ring_pop, ring_none}
 use Rattle.laws.proofs.Slots.{slot_zero}
-use Rattle.types.specs.Values.{maybe_in, num_of}
-use Rattle.types.specs.declared.answer.Outcome.{Outcome}
-use Rattle.types.specs.declared.answer.Outcome.TheVariants.{Done, Refused}
+use Rattle.types.specs.Values.{maybe_in}
 use Rattle.types.specs.declared.error.ProducerError.TheVariants.{NoFrame, PartOutside, TooShort}
 use Rattle.types.specs.declared.frame.BatchFrame.{BatchFrame}
 use Rattle.types.specs.declared.frame.FrameRecord.{FrameRecord}
@@ -38,15 +36,13 @@ use Rattle.frames.specs.After.{has_next, stays_of, record_after}
 use Rattle.plans.specs.Take.{core_taken, take_planned}
 use Rattle.frames.specs.declared.span.Span.{Span}
 use Rattle.plans.specs.declared.take.TakePlan.{TakePlan}
-use Rattle.types.specs.declared.message.MaybePart.TheVariants as part
-use Rattle.types.specs.declared.optional.MaybeU64.TheVariants as number
-use Rattle.types.specs.declared.optional.MaybeBool.TheVariants as mark
 use Rattle.frames.proofs.Batches.{all_in_lem}
 use Rattle.producer.specs.View.{view}
 use Rattle.producer.specs.Take.{frame_told, told_frame}
 use Rattle.producer.specs.declared.state.ProducerState.{ProducerState}
 use Rattle.producer.specs.declared.take.OutboundAnswer.{OutboundAnswer}
 use Rattle.producer.proofs.Full.{Full}
+use Rattle.types.specs.declared.error.ProducerError.{ProducerError}
 
 -- ── numbers and lists ──
 
@@ -85,7 +81,7 @@ stopped_test room x b = go (dec_lt room x)
 stop_short : (x : ℕ) → x < 2 ^ 63 → x ≡ stopped x
 stop_short x b = omega arith
 
-num_if : (b : Bool) (n : ℕ) → num_of (present_if b n) ≡ pick b (some n) none
+num_if : (b : Bool) (n : ℕ) → (present_if b n) ≡ pick b (Some n) None
 num_if true n = refl
 num_if false n = refl
 
@@ -94,11 +90,11 @@ some_message : SingleMessage
 some_message =
     record {
       payload = record { start = 0; len = 0 };
-      partition_key = part.Absent;
-      ordering_key = part.Absent;
-      event_time = number.Absent;
-      null_value = mark.Absent;
-      null_partition_key = mark.Absent;
+      partition_key = None;
+      ordering_key = None;
+      event_time = None;
+      null_value = None;
+      null_partition_key = None;
     }
 
 -- ── the front record ──
@@ -288,13 +284,13 @@ module _ (s : ProducerState) (f : Full s) (d : FrameRecord) where
     frame_is : (after : List ℕ) (len : ℕ) (k : FrameKind) → take len after ≡ (frame_for k).payload → frame_told store after (frame_out s.core.handle r k len) ≡ frame_for k
     frame_is after len Single e =
         let m = r.message in
-        λ j. message_frame store s.core.handle r (at_least_one m.num_messages) none (num_if (ltb 0 m.uncompressed_size) m.uncompressed_size j) none none none none (e j)
+        λ j. message_frame store s.core.handle r (at_least_one m.num_messages) None (num_if (ltb 0 m.uncompressed_size) m.uncompressed_size j) None None None None (e j)
     frame_is after len (Batch b) e = simp (num_if, e)
     frame_is after len (Chunked c) e =
         let m = r.message in
         λ j.
-        message_frame store s.core.handle r 1 (some true) (some m.uncompressed_size) (some c.next_chunk) (some c.total_chunks)
-        (some m.payload.len) (some (uuid_text r.uuid)) (e j)
+        message_frame store s.core.handle r 1 (Some true) (Some m.uncompressed_size) (Some c.next_chunk) (Some c.total_chunks)
+        (Some m.payload.len) (Some (uuid_text r.uuid)) (e j)
 
   -- ── the answer ──
 
@@ -326,7 +322,7 @@ module _ (s : ProducerState) (f : Full s) (d : FrameRecord) where
     abbrev span : Span
     span = span_for store front_of kind
 
-    abbrev answer : Outcome
+    abbrev answer : Result (Unit {0}) ProducerError
     answer = answer_of s.core.rings.outbound_len span (length before)
 
     nothing : s.core.rings.outbound_len ≡ 0 → next_outbound_frame store (length before) (view s) ≡ refuse 10 (view s)
@@ -360,10 +356,10 @@ module _ (s : ProducerState) (f : Full s) (d : FrameRecord) where
 
     -- what a plan that goes through tells
     record Accepted : Type 0 where
-      some : 0 < s.core.rings.outbound_len
+      Some : 0 < s.core.rings.outbound_len
       inside : span.inside ≡ true
       fits : ltb (length before) span.len ≡ false
-      is : answer ≡ Done
+      is : answer ≡ (Ok tt)
 
     not_refused : (b : Bool) → b ≡ false → b ≡ true → ◌≡◌ {A = ℕ} 0 1
     not_refused b x y = cc
@@ -374,24 +370,24 @@ module _ (s : ProducerState) (f : Full s) (d : FrameRecord) where
         by : Dec (0 < s.core.rings.outbound_len) → (i : Bool) → span.inside ≡ i → (l : Bool) → ltb (length before) span.len ≡ l → Accepted
         by (no p) i e l x =
             let z : s.core.rings.outbound_len ≡ 0 = omega arith in
-            let a : answer ≡ Refused NoFrame = pick_true _ _ (eq-eqb s.core.rings.outbound_len 0 z) in
+            let a : answer ≡ Err NoFrame = pick_true _ _ (eq-eqb s.core.rings.outbound_len 0 z) in
             differ (not_refused (is_done answer) (ap is_done a) t)
         by (yes p) false e l x =
-            let a : answer ≡ Refused PartOutside = pick_false _ _ (ne_eqb s.core.rings.outbound_len 0 (λ z. omega arith)) ∙ pick_false _ _ e in
+            let a : answer ≡ Err PartOutside = pick_false _ _ (ne_eqb s.core.rings.outbound_len 0 (λ z. omega arith)) ∙ pick_false _ _ e in
             differ (not_refused (is_done answer) (ap is_done a) t)
         by (yes p) true e true x =
-            let a : answer ≡ Refused TooShort =
+            let a : answer ≡ Err TooShort =
             pick_false _ _ (ne_eqb s.core.rings.outbound_len 0 (λ z. omega arith)) ∙ pick_true _ _ e ∙ pick_true _ _ x in
             differ (not_refused (is_done answer) (ap is_done a) t)
         by (yes p) true e false x =
             record {
-              some = p;
+              Some = p;
               inside = e;
               fits = x;
               is = pick_false _ _ (ne_eqb s.core.rings.outbound_len 0 (λ z. omega arith)) ∙ pick_true _ _ e ∙ pick_false _ _ x;
             }
 
-    abbrev Refuses : OutboundFrame → Outcome → Type 0
+    abbrev Refuses : OutboundFrame → Result (Unit {0}) ProducerError → Type 0
     Refuses fr o = Takes store before before (record { answer = o; frame = fr; state = s })
 
     refused_is : (fr : OutboundFrame) → is_done answer ≡ false → Takes store before before (record { answer = answer; frame = fr; state = s })
@@ -400,17 +396,17 @@ module _ (s : ProducerState) (f : Full s) (d : FrameRecord) where
         by : Dec (0 < s.core.rings.outbound_len) → (i : Bool) → span.inside ≡ i → (l : Bool) → ltb (length before) span.len ≡ l → Refuses fr answer
         by (no p) i e l x =
             let z : s.core.rings.outbound_len ≡ 0 = omega arith in
-            let a : answer ≡ Refused NoFrame = pick_true _ _ (eq-eqb s.core.rings.outbound_len 0 z) in
+            let a : answer ≡ Err NoFrame = pick_true _ _ (eq-eqb s.core.rings.outbound_len 0 z) in
             subst (Refuses fr) (sym a) (sym (nothing z), (refl, refl))
         by (yes p) false e l x =
-            let a : answer ≡ Refused PartOutside = pick_false _ _ (ne_eqb s.core.rings.outbound_len 0 (λ z. omega arith)) ∙ pick_false _ _ e in
+            let a : answer ≡ Err PartOutside = pick_false _ _ (ne_eqb s.core.rings.outbound_len 0 (λ z. omega arith)) ∙ pick_false _ _ e in
             subst (Refuses fr) (sym a) (sym (outside p e), (refl, refl))
         by (yes p) true e true x =
-            let a : answer ≡ Refused TooShort =
+            let a : answer ≡ Err TooShort =
             pick_false _ _ (ne_eqb s.core.rings.outbound_len 0 (λ z. omega arith)) ∙ pick_true _ _ e ∙ pick_true _ _ x in
             subst (Refuses fr) (sym a) (sym (too_short p e x), (refl, refl))
         by (yes p) true e false x =
-            let a : answer ≡ Done =
+            let a : answer ≡ (Ok tt) =
             pick_false _ _ (ne_eqb s.core.rings.outbound_len 0 (λ z. omega arith)) ∙ pick_true _ _ e ∙ pick_false _ _ x in
             differ (not_refused (is_done answer) t (ap is_done a))
 
@@ -440,7 +436,7 @@ module _ (s : ProducerState) (f : Full s) (d : FrameRecord) where
         let start : take span.len after ≡ bytes = ap (take span.len) left ∙ take_at bytes (drop (length bytes) before) span.len size in
         let frame = frame_is store front_of after span.len kind start in
         subst
-        (λ (o : Outcome). Takes store before after (record { answer = o; frame = frame_out s.core.handle front_of kind span.len; state = state_after front_of }))
+        (λ (o : Result (Unit {0}) ProducerError). Takes store before after (record { answer = o; frame = frame_out s.core.handle front_of kind span.len; state = state_after front_of }))
         (sym a.is) (
           (λ j. (after_is some_message a.some front_of j, done (frame j))) ∙ sym (goes a.some a.inside a.fits),
           (left ∙ ap (λ (g : Frame). g.payload ++ drop (length g.payload) before) (sym frame), tt),

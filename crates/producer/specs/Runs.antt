@@ -1,6 +1,5 @@
 -- Runs of the code: states and answers, each call meeting its method's contract; and the order rule for them.
-use Rattle.std.specs.Prelude.{◌≡◌, ℕ, List, [], ◌∷◌, ◌++◌}
-use Rattle.std.proofs.Math.Option.{some}
+use Rattle.std.specs.Prelude.{◌≡◌, ℕ, List, [], ◌∷◌, ◌++◌, Some}
 use Rattle.types.specs.declared.types.ProducerHandle.{ProducerHandle}
 use Rattle.queue.specs.Queue.{Answer, Outcome, new_queue}
 use Rattle.queue.specs.Frame.{Frame}
@@ -32,4 +31,4 @@ CodeInOrder =
     → Run store s cs u frames messages
     → Premises store handle cs
     → Waiting store (view u) waiting
-    → read (frames ++ waiting) ≡ some messages
+    → read (frames ++ waiting) ≡ Some messages

@@ -1,15 +1,12 @@
 -- What the steps of settling leave of a state.
-use Rattle.std.specs.Prelude.{◌≡◌, ℕ, ◌-◌, ◌<◌, min, map, length, slice_index_or}
+use Rattle.std.specs.Prelude.{◌≡◌, ℕ, ◌-◌, ◌<◌, min, map, length, slice_index_or, Err, None, Ok, Option, Some}
 use Rattle.laws.specs.Lists.{without}
 use Rattle.laws.specs.Ring.{ring}
-use Rattle.types.specs.declared.answer.Outcome.TheVariants.{Done, Refused}
 use Rattle.types.specs.declared.error.ProducerError.TheVariants.{NotAnswerable}
 use Rattle.types.specs.declared.entry.OpSend.{OpSend}
 use Rattle.queue.specs.Queue.{with_pending}
 use Rattle.queue.specs.Settle.{unmark}
 use Rattle.upkeep.specs.Pending.{Key, located, cleared_all}
-use Rattle.upkeep.specs.declared.pending.Found.{Found}
-use Rattle.upkeep.specs.declared.pending.Found.TheVariants.{At, Nothing}
 use Rattle.producer.specs.View.{view, slots_of}
 use Rattle.producer.specs.declared.settle.Settled.{Settled}
 use Rattle.producer.specs.declared.state.ProducerState.{ProducerState}
@@ -45,11 +42,11 @@ unmarked id s =
     }
 
 -- what settling an id answers: the entry and the queue without it, or 11 and the very state
-abbrev pub settles_at : ℕ → ProducerState → Settled → Found → Type 0
-settles_at id s r Nothing = (r.answer ≡ Refused NotAnswerable) × (r.state ≡ s)
-settles_at id s r (At i) =
+abbrev pub settles_at : ℕ → ProducerState → Settled → Option ℕ → Type 0
+settles_at id s r None = (r.answer ≡ Err NotAnswerable) × (r.state ≡ s)
+settles_at id s r (Some i) =
     (i < length (view s).pending)
-    × (r.answer ≡ Done)
+    × (r.answer ≡ (Ok tt))
     × (slice_index_or (view s).pending i r.op ≡ r.op)
     × (view r.state ≡ with_pending (without (map (unmark id) (view s).pending) i) (view s))
 

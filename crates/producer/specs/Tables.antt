@@ -1,14 +1,8 @@
 -- What drains and the snapshot answer, and their steps.
-use Rattle.std.specs.Prelude.{◌≡◌, ℕ, min, List, length, take, nat_lt}
+use Rattle.std.specs.Prelude.{◌≡◌, ℕ, min, List, length, take, nat_lt, Err, None, Ok, Option, Result, Some}
 use Rattle.laws.specs.Choice.{pick}
-use Rattle.types.specs.Values.{num_of}
-use Rattle.types.specs.declared.answer.CountOutcome.{CountOutcome}
-use Rattle.types.specs.declared.answer.CountOutcome.TheVariants as count
-use Rattle.types.specs.declared.answer.Outcome.TheVariants as plain
 use Rattle.types.specs.declared.entry.OpSend.{OpSend}
 use Rattle.types.specs.declared.error.ProducerError.TheVariants.{TooShort}
-use Rattle.types.specs.declared.optional.MaybeU64.{MaybeU64}
-use Rattle.types.specs.declared.optional.MaybeU64.TheVariants.{Absent, Present}
 use Rattle.queue.specs.Queue as queue
 use Rattle.queue.specs.Queue.{Queue, Answer, refused, done}
 use Rattle.queue.specs.Settle.{due_count, drain_timed_out_sends, table_after}
@@ -23,11 +17,12 @@ use Rattle.producer.specs.View.{view}
 use Rattle.producer.specs.declared.send.CountAnswer.{CountAnswer}
 use Rattle.producer.specs.declared.state.ProducerState.{ProducerState}
 use Rattle.producer.specs.declared.drain.SnapshotAnswer.{SnapshotAnswer}
+use Rattle.types.specs.declared.error.ProducerError.{ProducerError}
 
 -- the entries handed out are the first of the table after the call
-abbrev pub told_table : CountOutcome → List OpSend → Answer (List OpSend)
-told_table (count.Count n) table = done (take n table)
-told_table (count.Refused e) table = told_error e
+abbrev pub told_table : Result ℕ ProducerError → List OpSend → Answer (List OpSend)
+told_table (Ok n) table = done (take n table)
+told_table (Err e) table = told_error e
 
 -- what the table holds then: those, and beyond them as it was; or all of it as it was
 abbrev pub table_left : Answer (List OpSend) → List OpSend → List OpSend
@@ -49,20 +44,20 @@ replay_left (done gone) table = table_after gone.1 table
 -- ── the steps ──
 
 -- both drains: of the entries that are due at a time, or of all
-abbrev pub drain_of : MaybeU64 → ℕ → Queue → queue.Outcome (List OpSend)
-drain_of Absent room q = drain_pending_sends room q
-drain_of (Present time) room q = drain_timed_out_sends time room q
+abbrev pub drain_of : Option ℕ → ℕ → Queue → queue.Outcome (List OpSend)
+drain_of None room q = drain_pending_sends room q
+drain_of (Some time) room q = drain_timed_out_sends time room q
 
-abbrev pub gone_of : MaybeU64 → Queue → List OpSend
-gone_of Absent q = q.pending
-gone_of (Present time) q = take (due_count time (num_of q.settings.delays.send_timeout) q.pending) q.pending
+abbrev pub gone_of : Option ℕ → Queue → List OpSend
+gone_of None q = q.pending
+gone_of (Some time) q = take (due_count time q.settings.delays.send_timeout q.pending) q.pending
 
 -- how many of the entries, listed in es, a drain hands out
-abbrev pub plan_of : MaybeU64 → List OpSend → ℕ → ProducerState → Handout
+abbrev pub plan_of : Option ℕ → List OpSend → ℕ → ProducerState → Handout
 plan_of due es room s =
-    handout_of (gone_count due (num_of s.core.settings.delays.send_timeout) (take (min s.core.rings.pending_len 256) es)) room
+    handout_of (gone_count due s.core.settings.delays.send_timeout (take (min s.core.rings.pending_len 256) es)) room
 
-abbrev pub drained_state : MaybeU64 → List OpSend → Handout → ProducerState → ProducerState
+abbrev pub drained_state : Option ℕ → List OpSend → Handout → ProducerState → ProducerState
 drained_state due es p s =
     record {
       core = core_after due p.count s.core;
@@ -73,14 +68,14 @@ drained_state due es p s =
       pending_marks = cleared_each (take p.count es) s.pending_ids s.pending_marks;
     }
 
-abbrev pub drained_to : MaybeU64 → List OpSend → Handout → ProducerState → CountAnswer
+abbrev pub drained_to : Option ℕ → List OpSend → Handout → ProducerState → CountAnswer
 drained_to due es p s =
     pick (nat_lt p.write p.count)
-    (record { answer = count.Refused TooShort; state = s })
-    (record { answer = count.Count p.count; state = drained_state due es p s })
+    (record { answer = Err TooShort; state = s })
+    (record { answer = Ok p.count; state = drained_state due es p s })
 
 -- what a drain owes, of the answer, the state and the table after it
-abbrev pub Drains : MaybeU64 → ProducerState → List OpSend → CountAnswer → List OpSend → Type 0
+abbrev pub Drains : Option ℕ → ProducerState → List OpSend → CountAnswer → List OpSend → Type 0
 Drains due s ys r zs =
     ◌≡◌ {A = queue.Outcome (List OpSend)} (view r.state, told_table r.answer zs) (drain_of due (length ys) (view s))
     × (zs ≡ table_left (told_table r.answer zs) ys)
@@ -89,7 +84,7 @@ Drains due s ys r zs =
 abbrev pub snapshot_to : Snapshot → ProducerState → SnapshotAnswer
 snapshot_to p s =
     record {
-      answer = pick p.fits plain.Done (plain.Refused TooShort);
+      answer = pick p.fits (Ok tt) (Err TooShort);
       dropped = p.dropped;
       replay = p.replay;
       state = pick p.fits (store_core (core_snapshot p.dropped s.core) s) s;

@@ -1,8 +1,7 @@
 -- What the answer of a take says: its parts are the store's bytes, and its payload is the start of the buffer after the call.
-use Rattle.std.specs.Prelude.{ℕ, List, take, ◌==◌}
-use Rattle.std.proofs.Math.Option.{Option, some, none}
+use Rattle.std.specs.Prelude.{ℕ, List, take, ◌==◌, None, Option, Some}
 use Rattle.laws.specs.Choice.{pick}
-use Rattle.types.specs.Values.{part_of, bytes_of, num_of, mark_of, txn_of, int32_of, int64_of, id_of, name_of}
+use Rattle.types.specs.Values.{part_of, bytes_of, name_of}
 use Rattle.types.specs.declared.outbound.CommandSend.{CommandSend}
 use Rattle.types.specs.declared.outbound.MessageMetadata.{MessageMetadata}
 use Rattle.types.specs.declared.outbound.FrameName.{FrameName}
@@ -18,7 +17,7 @@ abbrev pub name_told : List ℕ → FrameName → List ℕ
 name_told store n = pick (n.own.len == 0) (name_of n.producer) (part_of store n.own)
 
 abbrev pub uuid_told : UuidText → Option (List ℕ)
-uuid_told u = pick u.present (some u.text) none
+uuid_told u = pick u.present (Some u.text) None
 
 abbrev pub command_told : CommandSend → Command
 command_told c =
@@ -26,10 +25,10 @@ command_told c =
       producer_id = c.producer_id;
       sequence_id = c.sequence_id;
       num_messages = c.num_messages;
-      txn = txn_of c.txn_id;
-      highest_sequence_id = num_of c.highest_sequence_id;
-      is_chunk = mark_of c.is_chunk;
-      message_id = id_of c.message_id;
+      txn = c.txn_id;
+      highest_sequence_id = c.highest_sequence_id;
+      is_chunk = c.is_chunk;
+      message_id = c.message_id;
     }
 
 abbrev pub metadata_told : List ℕ → MessageMetadata → Metadata
@@ -41,18 +40,18 @@ metadata_told store m =
       partition_key = bytes_of store m.partition_key;
       ordering_key = bytes_of store m.ordering_key;
       schema_version = bytes_of store m.schema_version;
-      event_time = num_of m.event_time;
-      null_value = mark_of m.null_value;
-      null_partition_key = mark_of m.null_partition_key;
-      deliver_at_time = int64_of m.deliver_at_time;
-      compression = int32_of m.compression;
-      uncompressed_size = num_of m.uncompressed_size;
-      txn = txn_of m.txn_id;
-      highest_sequence_id = num_of m.highest_sequence_id;
-      num_messages_in_batch = num_of m.num_messages_in_batch;
-      chunk_id = num_of m.chunk_id;
-      num_chunks = num_of m.num_chunks_from_msg;
-      total_chunk_msg_size = num_of m.total_chunk_msg_size;
+      event_time = m.event_time;
+      null_value = m.null_value;
+      null_partition_key = m.null_partition_key;
+      deliver_at_time = m.deliver_at_time;
+      compression = m.compression;
+      uncompressed_size = m.uncompressed_size;
+      txn = m.txn_id;
+      highest_sequence_id = m.highest_sequence_id;
+      num_messages_in_batch = m.num_messages_in_batch;
+      chunk_id = m.chunk_id;
+      num_chunks = m.num_chunks_from_msg;
+      total_chunk_msg_size = m.total_chunk_msg_size;
       uuid = uuid_told m.uuid;
     }
 

@@ -17,15 +17,13 @@ use tables::drain::{Handout, fitted, gone_count, unmark_each};
 use tables::pick::{Picks, picked};
 use tables::scalars::{after_drain, after_snapshot};
 use tables::snapshot::{Snapshot, both_fitted};
-use types::answer::{CountOutcome, Outcome};
 use types::entry::OpSend;
 use types::error::ProducerError;
-use types::optional::MaybeU64;
 
 // How many entries each table was given. On a refusal the counts mean nothing.
 #[derive(Clone, Copy)]
 pub struct SnapshotAnswer {
-    pub answer: Outcome,
+    pub answer: Result<(), ProducerError>,
     pub dropped: usize,
     pub replay: usize,
     pub state: ProducerState,
@@ -33,7 +31,7 @@ pub struct SnapshotAnswer {
 
 impl ProducerState {
     // How many entries a drain hands out to a table of so much room: those that are due at a time, or all.
-    fn plan_drain(&self, due: MaybeU64, entries: [OpSend; 256], room: usize) -> Handout
+    fn plan_drain(&self, due: Option<u64>, entries: [OpSend; 256], room: usize) -> Handout
         ensures { result ≡ plan_of due entries room self.now }
     {
         let n = at_most(self.core.rings.pending_len, 256);
@@ -46,13 +44,13 @@ impl ProducerState {
     }
 
     // They leave, and their ids the index; or 9, and nothing changes.
-    fn drained(mut self, due: MaybeU64, entries: [OpSend; 256], p: Handout) -> CountAnswer
+    fn drained(mut self, due: Option<u64>, entries: [OpSend; 256], p: Handout) -> CountAnswer
         requires { p.count ≤ 256 }
         ensures { result ≡ drained_to due entries p self }
     {
         if p.write < p.count {
             CountAnswer {
-                answer: CountOutcome::Refused(ProducerError::TooShort),
+                answer: Err(ProducerError::TooShort),
                 state: self,
             }
         } else {
@@ -64,14 +62,14 @@ impl ProducerState {
             self.core = core;
             self.pending_marks = marks;
             CountAnswer {
-                answer: CountOutcome::Count(p.count),
+                answer: Ok(p.count),
                 state: self,
             }
         }
     }
 
     // Both drains.
-    fn hand_out(mut self, due: MaybeU64, table: &mut [OpSend]) -> CountAnswer
+    fn hand_out(mut self, due: Option<u64>, table: &mut [OpSend]) -> CountAnswer
         ensures { Drains due self table.old result table.new }
     {
         let entries = self.entries();
@@ -86,7 +84,7 @@ impl ProducerState {
         ensures table_after_2 { table.new ≡ table_left (told_table result.answer table.new) table.old }
         ensures kept { Kept (told_table result.answer table.new) self result.state }
     {
-        self.hand_out(MaybeU64::Absent, table)
+        self.hand_out(None, table)
     }
 
     // The entries from the front that are due. Frames and batched messages stay.
@@ -95,7 +93,7 @@ impl ProducerState {
         ensures table_after_2 { table.new ≡ table_left (told_table result.answer table.new) table.old }
         ensures kept { Kept (told_table result.answer table.new) self result.state }
     {
-        self.hand_out(MaybeU64::Present(time), table)
+        self.hand_out(Some(time), table)
     }
 
     // The batched entries, or the others.
@@ -133,14 +131,14 @@ impl ProducerState {
             let core = after_snapshot(c, dropped);
             self.core = core;
             SnapshotAnswer {
-                answer: Outcome::Done,
+                answer: Ok(()),
                 dropped: dropped,
                 replay: replay,
                 state: self,
             }
         } else {
             SnapshotAnswer {
-                answer: Outcome::Refused(ProducerError::TooShort),
+                answer: Err(ProducerError::TooShort),
                 dropped: dropped,
                 replay: replay,
                 state: self,

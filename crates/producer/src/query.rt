@@ -1,19 +1,17 @@
 // What can be asked of a producer.
 ghost use Rattle.std.specs.Prelude.{◌≡◌};
-ghost use Rattle.types.specs.Values.{num_of};
 ghost use Rattle.queue.specs.Ids.{next_send_deadline, next_batch_deadline, batch_deadline_elapsed};
 ghost use Rattle.queue.specs.Queries.{may_add, outbound_len, stats};
 ghost use Rattle.producer.specs.View.{view};
 
 use crate::state::ProducerState;
-use types::optional::MaybeU64;
 use types::stats::ProducerStats;
 use upkeep::deadline::elapsed;
 use upkeep::stats::{outbound_len_of, stats_of};
 
 impl ProducerState {
-    pub fn next_send_deadline(self) -> MaybeU64
-        ensures { num_of result ≡ next_send_deadline (view self) }
+    pub fn next_send_deadline(self) -> Option<u64>
+        ensures { result ≡ next_send_deadline (view self) }
     {
         let at = self.core.rings.pending_head % 256;
         let front = self.pending[at];
@@ -21,8 +19,8 @@ impl ProducerState {
         c.next_send_deadline(front.enqueued_at)
     }
 
-    pub fn next_batch_deadline(self) -> MaybeU64
-        ensures { num_of result ≡ next_batch_deadline (view self) }
+    pub fn next_batch_deadline(self) -> Option<u64>
+        ensures { result ≡ next_batch_deadline (view self) }
     {
         let c = self.core;
         c.next_batch_deadline()

@@ -3,10 +3,11 @@ ghost use Rattle.std.specs.Prelude.{◌≡◌, ◌≤◌, min, map, take};
 ghost use Rattle.laws.specs.Lists.{front_all};
 ghost use Rattle.queue.specs.Queue.{with_out, with_pending};
 ghost use Rattle.queue.specs.Tables.{fronted, mark, replay_pending_outbound, replay_snapshots};
-ghost use Rattle.queue.specs.Told.{Kept, told, told_count};
+ghost use Rattle.queue.specs.Told.{Kept, told};
 ghost use Rattle.producer.specs.Replay.{frame_id, replayed_as};
 ghost use Rattle.producer.specs.View.{view};
 
+use types::error::ProducerError;
 use crate::send::CountAnswer;
 use crate::state::ProducerState;
 use rules::numbers::at_most;
@@ -14,12 +15,11 @@ use tables::entries::{again, frames_of, is_batched};
 use tables::load::{all_well_formed, load};
 use tables::pushes::frames_for;
 use tables::unborne::unborne;
-use types::answer::{CountOutcome, Outcome};
 use types::entry::OpSend;
 
 #[derive(Clone, Copy)]
 pub struct ReplayAnswer {
-    pub answer: Outcome,
+    pub answer: Result<(), ProducerError>,
     pub state: ProducerState,
 }
 
@@ -102,8 +102,8 @@ impl ProducerState {
 
     // Fronts the frames of the entries whose id no waiting frame bears, and answers how many.
     pub fn replay_pending_outbound(mut self) -> CountAnswer
-        ensures answer_value { (view result.state, told_count result.answer) ≡ replay_pending_outbound (view self) }
-        ensures kept { Kept (told_count result.answer) self result.state }
+        ensures answer_value { (view result.state, told result.answer) ≡ replay_pending_outbound (view self) }
+        ensures kept { Kept (told result.answer) self result.state }
     {
         let n = at_most(self.core.rings.pending_len, 256);
         let m = at_most(self.core.rings.outbound_len, 1024);
@@ -115,14 +115,14 @@ impl ProducerState {
         let c = self.core;
         let answer = c.replay_count(frames_for(entries, len));
         match answer {
-            CountOutcome::Count(_) => {
+            Ok(_) => {
                 let s = self.front_frames(entries, len);
                 CountAnswer {
                     answer: answer,
                     state: s,
                 }
             }
-            CountOutcome::Refused(_) => CountAnswer {
+            Err(_) => CountAnswer {
                 answer: answer,
                 state: self,
             },
@@ -138,7 +138,7 @@ impl ProducerState {
         let c = self.core;
         let answer = c.replay_answer(well_formed, n, frames_for(table, len));
         match answer {
-            Outcome::Done => {
+            Ok(()) => {
                 let marked = self.mark_all();
                 let pending = marked.front_entries(table, len);
                 let s = pending.front_frames(table, len);
@@ -147,7 +147,7 @@ impl ProducerState {
                     state: s,
                 }
             }
-            Outcome::Refused(_) => ReplayAnswer {
+            Err(_) => ReplayAnswer {
                 answer: answer,
                 state: self,
             },

@@ -2,13 +2,14 @@
 ghost use Rattle.std.specs.Prelude.{◌≡◌, length};
 ghost use Rattle.queue.specs.Batch.{flush_batch};
 ghost use Rattle.queue.specs.Send.{queue_send};
-ghost use Rattle.queue.specs.Told.{told_send, told_count, Kept};
+ghost use Rattle.queue.specs.Told.{told_send, told, Kept};
 ghost use Rattle.producer.specs.View.{view};
 ghost use Rattle.producer.specs.Send.{sending, KeptSend};
 
+use types::error::ProducerError;
 use crate::state::ProducerState;
 use plans::send::Sending;
-use types::answer::{CountOutcome, SendDecision};
+use types::answer::{SendDecision};
 use types::memory_limit::MemoryReservation;
 use types::message::OutgoingMessage;
 
@@ -21,7 +22,7 @@ pub struct SendAnswer {
 // Of a flush, a drain or a replay of what is pending.
 #[derive(Clone, Copy)]
 pub struct CountAnswer {
-    pub answer: CountOutcome,
+    pub answer: Result<usize, ProducerError>,
     pub state: ProducerState,
 }
 
@@ -74,8 +75,8 @@ impl ProducerState {
 
     // The count of frames made, 0 or 1. As in the Rust the time of the call is not used.
     pub fn flush_batch(mut self, publish_time: u64, _now: u64) -> CountAnswer
-        ensures answer_value { (view result.state, told_count result.answer) ≡ flush_batch publish_time (view self) }
-        ensures kept { Kept (told_count result.answer) self result.state }
+        ensures answer_value { (view result.state, told result.answer) ≡ flush_batch publish_time (view self) }
+        ensures kept { Kept (told result.answer) self result.state }
     {
         let c = self.core;
         let d = c.plan_flush(publish_time);

@@ -5,13 +5,13 @@ ghost use Rattle.queue.specs.Ids.{set_initial_sequence_id};
 ghost use Rattle.queue.specs.Told.{told, Kept};
 ghost use Rattle.producer.specs.View.{view};
 
+use types::error::ProducerError;
 use crate::state::ProducerState;
-use types::answer::Outcome;
 use types::settings::Setting;
 
 #[derive(Clone, Copy)]
 pub struct SetAnswer {
-    pub answer: Outcome,
+    pub answer: Result<(), ProducerError>,
     pub state: ProducerState,
 }
 

@@ -12,17 +12,16 @@ ghost use Rattle.producer.specs.View.{view, entry_of};
 
 use crate::state::ProducerState;
 use rules::numbers::at_most;
-use types::answer::Outcome;
 use types::command::{CommandSendError, CommandSendReceipt};
 use types::entry::{OpSend, Publish};
 use types::error::ProducerError;
 use types::types::{MessageId, SequenceId};
-use upkeep::pending::{Found, locate, unmark};
+use upkeep::pending::{locate, unmark};
 
 // The entry that left, and the state without it; or the state as it was, where the id is not answerable.
 #[derive(Clone, Copy)]
 pub struct Settled {
-    pub answer: Outcome,
+    pub answer: Result<(), ProducerError>,
     pub op: OpSend,
     pub state: ProducerState,
 }
@@ -30,7 +29,7 @@ pub struct Settled {
 // On a refusal the entry and the message id mean nothing.
 #[derive(Clone, Copy)]
 pub struct ReceiptAnswer {
-    pub answer: Outcome,
+    pub answer: Result<(), ProducerError>,
     pub op: OpSend,
     pub message_id: MessageId,
     pub state: ProducerState,
@@ -38,7 +37,7 @@ pub struct ReceiptAnswer {
 
 #[derive(Clone, Copy)]
 pub struct ErrorAnswer {
-    pub answer: Outcome,
+    pub answer: Result<(), ProducerError>,
     pub op: OpSend,
     pub error: i32,
     pub state: ProducerState,
@@ -95,7 +94,7 @@ impl ProducerState {
     }
 
     // Where the first entry stands that bears the id, if the id is answerable.
-    fn place_of(&self, id: u64) -> Found
+    fn place_of(&self, id: u64) -> Option<usize>
         ensures { result ≡ located id (ring 256 (keys self.now.pending_ids self.now.pending_marks) self.now.core.rings.pending_head self.now.core.rings.pending_len) }
     {
         let head = self.core.rings.pending_head;
@@ -129,20 +128,20 @@ impl ProducerState {
     {
         let place = self.place_of(id);
         match place {
-            Found::At(i) => {
+            Some(i) => {
                 let op = self.op_at(i);
                 self = self.unmark_all(id);
                 self = self.remove(i);
                 Settled {
-                    answer: Outcome::Done,
+                    answer: Ok(()),
                     op: op,
                     state: self,
                 }
             }
-            Found::Nothing => {
+            None => {
                 let op = self.op_at(0);
                 Settled {
-                    answer: Outcome::Refused(ProducerError::NotAnswerable),
+                    answer: Err(ProducerError::NotAnswerable),
                     op: op,
                     state: self,
                 }

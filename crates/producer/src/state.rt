@@ -8,8 +8,7 @@ use rules::blank::no_message;
 use types::entry::{Publish, Replay};
 use types::frame::{FrameKind, FrameRecord, ProducerName};
 use types::memory_limit::MemoryReservation;
-use types::message::{MaybePart, Part, SingleMessage};
-use types::optional::{MaybeBool, MaybeU64};
+use types::message::{Part, SingleMessage};
 use types::types::{ProducerHandle, SequenceId};
 
 #[derive(Clone, Copy)]
@@ -46,11 +45,11 @@ impl ProducerState {
         };
         let single = SingleMessage {
             payload: Part { start: 0, len: 0 },
-            partition_key: MaybePart::Absent,
-            ordering_key: MaybePart::Absent,
-            event_time: MaybeU64::Absent,
-            null_value: MaybeBool::Absent,
-            null_partition_key: MaybeBool::Absent,
+            partition_key: None,
+            ordering_key: None,
+            event_time: None,
+            null_value: None,
+            null_partition_key: None,
         };
         let publish = Publish {
             num_messages: 0,

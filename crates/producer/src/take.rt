@@ -5,16 +5,16 @@ ghost use Rattle.queue.specs.Told.{Kept};
 ghost use Rattle.producer.specs.Take.{told_frame};
 ghost use Rattle.producer.specs.View.{view};
 
+use types::error::ProducerError;
 use crate::state::ProducerState;
 use frames::payload::put_payload;
 use frames::span::{held_count, payload_span};
-use types::answer::Outcome;
 use types::outbound::OutboundFrame;
 
 // On a refusal the frame means nothing.
 #[derive(Clone, Copy)]
 pub struct OutboundAnswer {
-    pub answer: Outcome,
+    pub answer: Result<(), ProducerError>,
     pub frame: OutboundFrame,
     pub state: ProducerState,
 }

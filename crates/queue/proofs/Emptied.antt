@@ -1,14 +1,13 @@
 -- The batch is empty exactly if, as document 01 tells it, no message joined after the last flush that made a frame: `len` counts those that did.
+use Rattle.std.specs.Prelude.{Option, Some, None}
 use Prim.Native.Nat.{ℕ, ◌+◌, ◌≤◌}
 use mathlib.Core.Path.{◌≡◌, refl, ap, ◌∙◌}
 use mathlib.Core.Bool.{Bool, true, false, not, ◌||◌}
 use mathlib.Core.List.{List, [], ◌∷◌}
-use mathlib.Core.Option.{Option, some, none}
 use native.Mathlib.Omega.{arith}
 use lib.ListN.{length, take as firsts}
 use lib.Dec.{eqb, ltb, leb}
 use Rattle.laws.specs.Choice.{pick}
-use Rattle.types.specs.Values.{num_of}
 use Rattle.types.specs.declared.entry.OpSend.{OpSend}
 use Rattle.types.specs.declared.frame.FrameRecord.{FrameRecord}
 use Rattle.types.specs.declared.types.ProducerHandle.{ProducerHandle}
@@ -112,8 +111,8 @@ module _ (store : List ℕ) (q : Queue) (k : Well q) where
 
   settle_len : {A : Type 0} (id : ℕ) (give : OpSend → A) (change : Queue → Queue) → ((p : Queue) → len_in (change p) ≡ len_in p)
       → (b : Bool) (op : Option OpSend) → Leaves (len_in q) (settle id give change q b op)
-  settle_len id give change e true (some op) = record { len = e (with_pending (settled id q.pending) q) }
-  settle_len id give change e true none = stays
+  settle_len id give change e true (Some op) = record { len = e (with_pending (settled id q.pending) q) }
+  settle_len id give change e true None = stays
   settle_len id give change e false op = stays
 
   flush_len : (time : ℕ) (x y z : Bool) → let r : Outcome ℕ = pick x (q, done 0) (pick y (q, done 0) (pick z (refuse 4 q) (flushed time q, done 1))) in
@@ -140,7 +139,7 @@ module _ (store : List ℕ) (q : Queue) (k : Well q) where
   step_len (receipt id message_id) = settle_len id (λ (op : OpSend). (op, of_receipt message_id)) (λ (p : Queue). with_ids (published id p.ids) p) (λ p. refl) (answerable id q.pending) (found id q.pending)
   step_len (send_error id code) = settle_len id (λ (op : OpSend). (op, code)) (λ (p : Queue). p) (λ p. refl) (answerable id q.pending) (found id q.pending)
   step_len (timeouts now room) =
-      pick_ind (Leaves (len_in q)) (ltb room (length (firsts (due_count now (num_of q.settings.delays.send_timeout) q.pending) q.pending))) _ _
+      pick_ind (Leaves (len_in q)) (ltb room (length (firsts (due_count now q.settings.delays.send_timeout q.pending) q.pending))) _ _
       (λ x. stays)
       (λ x. record { len = refl })
   step_len (initial_id n) = record { len = refl }

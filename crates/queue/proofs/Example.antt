@@ -1,26 +1,15 @@
 -- A run computed by the definitions: a single message, a batch of three with a transaction, and a message in three chunks, read back.
+use Rattle.std.specs.Prelude.{Bool, None, Option, Some, ℕ}
 use Prim.Native.Nat.{ℕ}
 use mathlib.Core.Path.{◌≡◌, refl}
 use mathlib.Core.Bool.{Bool, true, false}
 use mathlib.Core.List.{List, [], ◌∷◌, ◌++◌, map}
-use mathlib.Core.Option.{Option, some, none}
 use native.Mathlib.Omega.{arith}
 use lib.ListN.{replicate}
 use lib.IntN.{pos}
-use Rattle.types.specs.declared.message.MaybePart.{MaybePart}
-use Rattle.types.specs.declared.message.MaybePart.TheVariants as part
 use Rattle.types.specs.declared.message.OutgoingMessage.{OutgoingMessage}
-use Rattle.types.specs.declared.optional.MaybeU64.{MaybeU64}
-use Rattle.types.specs.declared.optional.MaybeU64.TheVariants as number
-use Rattle.types.specs.declared.optional.MaybeI64.TheVariants as time
-use Rattle.types.specs.declared.optional.MaybeI32.TheVariants as code
-use Rattle.types.specs.declared.optional.MaybeBool.{MaybeBool}
-use Rattle.types.specs.declared.optional.MaybeBool.TheVariants as mark
 use Rattle.types.specs.declared.settings.Setting.TheVariants.{MaxMessageSize, MaxMessagesInBatch, BatchingEnabled, ChunkingEnabled}
-use Rattle.types.specs.declared.txn.MaybeTxnId.{MaybeTxnId}
-use Rattle.types.specs.declared.txn.MaybeTxnId.TheVariants as txn
 use Rattle.types.specs.declared.txn.TxnId.{TxnId}
-use Rattle.types.specs.declared.types.MaybeMessageId.TheVariants as source
 use Rattle.wire.specs.Proto.{varint_by, varint, key, varint_field, bytes_field, be32}
 use Rattle.wire.specs.Single.{single}
 use Rattle.wire.specs.Batch.{item, items}
@@ -35,28 +24,29 @@ use Rattle.queue.specs.Message.{Message}
 use Rattle.queue.specs.Read.{read_frame, read_from, read}
 use Rattle.queue.specs.Run.{Call, send, take, set, step, after, taken, accepted, Waiting, none_waits, one_waits}
 use Rattle.queue.specs.Order.{Premises}
+use Rattle.types.specs.declared.message.Part.{Part}
 
 -- 'quotekeyab'
 abbrev store : List ℕ
 store = 0x71 ∷ 0x75 ∷ 0x6f ∷ 0x74 ∷ 0x65 ∷ 0x6b ∷ 0x65 ∷ 0x79 ∷ 0x61 ∷ 0x62 ∷ []
 
-abbrev message : ℕ → ℕ → MaybePart → MaybeU64 → MaybeBool → MaybeTxnId → OutgoingMessage
+abbrev message : ℕ → ℕ → Option Part → Option ℕ → Option Bool → Option TxnId → OutgoingMessage
 message start len partition_key event_time null_value txn =
     record {
       payload = record { start = start; len = len };
       partition_key = partition_key;
-      ordering_key = part.Absent;
-      schema_version = part.Absent;
+      ordering_key = None;
+      schema_version = None;
       producer_name = record { start = 0; len = 0 };
       event_time = event_time;
       null_value = null_value;
-      null_partition_key = mark.Absent;
-      deliver_at_time = time.Absent;
-      compression = code.Absent;
+      null_partition_key = None;
+      deliver_at_time = None;
+      compression = None;
       uncompressed_size = 0;
       num_messages = pos 1;
       txn_id = txn;
-      source_message_id = source.Absent;
+      source_message_id = None;
     }
 
 abbrev sending : OutgoingMessage → Call
@@ -65,24 +55,24 @@ sending m = send (record { message = m; reserved = 0; uuid = replicate 16 0; pub
 abbrev one_two : TxnId
 one_two = record { most_sig_bits = 1; least_sig_bits = 2 }
 
-abbrev in_txn : MaybeTxnId
-in_txn = txn.Present one_two
+abbrev in_txn : Option TxnId
+in_txn = Some one_two
 
 -- the third message fills the batch, which its send flushes; the chunks are 2, 2 and 1 bytes long, and two of them wait at the end
 abbrev calls : List Call
 calls =
-    sending (message 0 5 (part.Present (record { start = 5; len = 3 })) (number.Present 300) mark.Absent txn.Absent)
+    sending (message 0 5 (Some (record { start = 5; len = 3 })) (Some 300) None None)
     ∷ set (BatchingEnabled true)
     ∷ set (MaxMessagesInBatch 3)
-    ∷ sending (message 8 1 (part.Present (record { start = 8; len = 0 })) number.Absent mark.Absent in_txn)
-    ∷ sending (message 9 1 part.Absent (number.Present 128) mark.Absent in_txn)
+    ∷ sending (message 8 1 (Some (record { start = 8; len = 0 })) None None in_txn)
+    ∷ sending (message 9 1 None (Some 128) None in_txn)
     ∷ take 3
     ∷ take 5
-    ∷ sending (message 5 3 part.Absent number.Absent (mark.Present false) in_txn)
+    ∷ sending (message 5 3 None None (Some false) in_txn)
     ∷ set (BatchingEnabled false)
     ∷ set (ChunkingEnabled true)
     ∷ set (MaxMessageSize 2)
-    ∷ sending (message 0 5 part.Absent number.Absent mark.Absent txn.Absent)
+    ∷ sending (message 0 5 None None None None)
     ∷ take 64
     ∷ take 64
     ∷ []
@@ -115,27 +105,27 @@ seen payload partition_key event_time null_value txn =
     record {
       payload = payload;
       partition_key = partition_key;
-      ordering_key = none;
+      ordering_key = None;
       event_time = event_time;
       null_value = null_value;
-      null_partition_key = none;
+      null_partition_key = None;
       txn = txn;
     }
 
 abbrev messages : List Message
 messages =
-    seen (0x71 ∷ 0x75 ∷ 0x6f ∷ 0x74 ∷ 0x65 ∷ []) (some (0x6b ∷ 0x65 ∷ 0x79 ∷ [])) (some 300) none none
-    ∷ seen (0x61 ∷ []) (some []) none none (some one_two)
-    ∷ seen (0x62 ∷ []) none (some 128) none (some one_two)
-    ∷ seen (0x6b ∷ 0x65 ∷ 0x79 ∷ []) none none (some false) (some one_two)
-    ∷ seen (0x71 ∷ 0x75 ∷ 0x6f ∷ 0x74 ∷ 0x65 ∷ []) none none none none
+    seen (0x71 ∷ 0x75 ∷ 0x6f ∷ 0x74 ∷ 0x65 ∷ []) (Some (0x6b ∷ 0x65 ∷ 0x79 ∷ [])) (Some 300) None None
+    ∷ seen (0x61 ∷ []) (Some []) None None (Some one_two)
+    ∷ seen (0x62 ∷ []) None (Some 128) None (Some one_two)
+    ∷ seen (0x6b ∷ 0x65 ∷ 0x79 ∷ []) None None (Some false) (Some one_two)
+    ∷ seen (0x71 ∷ 0x75 ∷ 0x6f ∷ 0x74 ∷ 0x65 ∷ []) None None None None
     ∷ []
 
 messages_accepted : accepted store start calls ≡ messages
 unfolding accepted step settings.set queue_send plan flushes_before can_add_to_batch follow flushed add_to_batch emit_single emit_chunked next_outbound_frame items item single varint_field bytes_field key varint varint_by be32
 messages_accepted = refl
 
-messages_read : read (taken store start calls ++ waiting) ≡ some messages
+messages_read : read (taken store start calls ++ waiting) ≡ Some messages
 unfolding after taken step settings.set queue_send plan flushes_before can_add_to_batch follow flushed add_to_batch emit_single emit_chunked next_outbound_frame items item single varint_field bytes_field key varint varint_by be32 read read_from read_frame read_items read_item read_be32 read_count read_single read_fields read_bytes read_below after_key read_varint
 messages_read = refl
 

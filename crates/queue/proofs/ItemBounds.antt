@@ -1,30 +1,27 @@
 -- A message that a send takes is within the bounds that a batch's bytes want: refusal 3 sees to it.
+use Rattle.std.specs.Prelude.{None, Option, Some, ℕ, unwrap_or}
 use Prim.Native.Nat.{◌^◌, ◌≤◌, ◌<◌}
 use mathlib.Core.Path.{◌≡◌}
 use mathlib.Core.Bool.{true, ◌&&◌}
-use mathlib.Core.Option.{get_or}
 use native.Mathlib.Omega.{arith}
 use lib.Dec.{leb}
 use borrow.Author.Tests.{leb-true}
 use Rattle.types.specs.MemoryLimit.{reservable}
-use Rattle.types.specs.Values.{num_of, up_to}
-use Rattle.types.specs.declared.message.MaybePart.{MaybePart}
-use Rattle.types.specs.declared.message.MaybePart.TheVariants as part
-use Rattle.types.specs.declared.optional.MaybeU64.{MaybeU64}
-use Rattle.types.specs.declared.optional.MaybeU64.TheVariants as number
+use Rattle.types.specs.Values.{up_to}
 use Rattle.wire.specs.Batch.{WithinBounds, len_of}
 use Rattle.queue.specs.Batch.{single_of}
 use Rattle.queue.specs.Send.{Sending, within_bounds}
 use Rattle.queue.specs.Run.{Is64}
 use Rattle.laws.proofs.Choice.{and_left, and_right}
+use Rattle.types.specs.declared.message.Part.{Part}
 
-part_within : (x : MaybePart) → up_to 1024 x ≡ true → len_of x ≤ 1024
-part_within part.Absent h = omega arith
-part_within (part.Present p) h = leb-true p.len 1024 h
+part_within : (x : Option Part) → up_to 1024 x ≡ true → len_of x ≤ 1024
+part_within None h = omega arith
+part_within (Some p) h = leb-true p.len 1024 h
 
-number_within : (x : MaybeU64) → Is64 x → get_or (num_of x) 0 < 2 ^ 64
-number_within number.Absent h = omega arith
-number_within (number.Present n) h = h
+number_within : (x : Option ℕ) → Is64 x → unwrap_or x 0 < 2 ^ 64
+number_within None h = omega arith
+number_within (Some n) h = h
 
 -- a send that refusal 3 lets through
 pub record Sendable (a : Sending) : Type 0 where

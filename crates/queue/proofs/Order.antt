@@ -1,8 +1,8 @@
 -- The order rule: by induction on the calls, and then on the takes that are left.
+use Rattle.std.specs.Prelude.{Some}
 use Prim.Native.Nat.{ℕ}
 use mathlib.Core.Path.{◌≡◌, refl, sym, ◌∙◌}
 use mathlib.Core.List.{List, [], ◌∷◌, ◌++◌, append_assoc, append-nil}
-use mathlib.Core.Option.{some}
 use native.Mathlib.Omega.{arith}
 use borrow.Author.Tests.{eqb-true}
 use Rattle.types.specs.declared.types.ProducerHandle.{ProducerHandle}
@@ -99,8 +99,8 @@ same_frames_rule store₁ store₂ handle₁ handle₂ cs₁ cs₂ waiting₁ wa
     let o₂ = order_rule store₂ handle₂ cs₂ p₂ in
     let w₁ = o₁.only waiting₁ t₁ in
     let w₂ = o₂.only waiting₂ t₂ in
-    let r₁ : read (taken store₁ (new_queue handle₁) cs₁ ++ waiting₁) ≡ some (accepted store₁ (new_queue handle₁) cs₁) = rw w₁ o₁.reads in
-    let r₂ : read (taken store₂ (new_queue handle₂) cs₂ ++ waiting₂) ≡ some (accepted store₂ (new_queue handle₂) cs₂) = rw w₂ o₂.reads in
+    let r₁ : read (taken store₁ (new_queue handle₁) cs₁ ++ waiting₁) ≡ Some (accepted store₁ (new_queue handle₁) cs₁) = rw w₁ o₁.reads in
+    let r₂ : read (taken store₂ (new_queue handle₂) cs₂ ++ waiting₂) ≡ Some (accepted store₂ (new_queue handle₂) cs₂) = rw w₂ o₂.reads in
     cc
 
 pub chunk_rule : ChunkRule

@@ -1,15 +1,14 @@
 -- Every call keeps a queue well, replays included: the refusals 4, 5 and 7 leave room for what the call then pushes.
+use Rattle.std.specs.Prelude.{Option, Some, None}
 use Prim.Native.Nat.{ℕ, ◌+◌, ◌≤◌, ◌<◌}
 use mathlib.Core.Path.{◌≡◌, refl, sym, ◌∙◌}
 use mathlib.Core.Bool.{Bool, true, false, not, ◌&&◌, ◌||◌}
 use mathlib.Core.List.{List, [], ◌∷◌, ◌++◌, map}
-use mathlib.Core.Option.{Option, some, none}
 use native.Mathlib.Omega.{arith}
 use lib.ListN.{length, take as firsts, drop as lasts, length-append, length-map}
 use lib.Dec.{ltb, leb}
 use borrow.Author.Tests.{ltb-false, leb-false, not-false}
 use Rattle.laws.specs.Numbers.{add_sat}
-use Rattle.types.specs.Values.{num_of}
 use Rattle.types.specs.declared.batch.BatchContainer.{BatchContainer}
 use Rattle.types.specs.declared.entry.OpSend.{OpSend}
 use Rattle.types.specs.declared.frame.FrameRecord.{FrameRecord}
@@ -121,9 +120,9 @@ module _ (store : List ℕ) (q : Queue) (k : Well q) where
 
   settle_well : {A : Type 0} (id : ℕ) (give : OpSend → A) (change : Queue → Queue) → ((p : Queue) → Well p → Well (change p))
       → (b : Bool) (op : Option OpSend) → Well (settle id give change q b op).0
-  settle_well id give change f true (some op) =
+  settle_well id give change f true (Some op) =
       f (with_pending (settled id q.pending) q) (record { out = k.out; pending = settled_entries id q.pending k.pending })
-  settle_well id give change f true none = k
+  settle_well id give change f true None = k
   settle_well id give change f false op = k
 
   hand_out_well : (room : ℕ) (gone : List OpSend) (p : Queue) → Well p → Well (hand_out room gone q p).0
@@ -196,7 +195,7 @@ module _ (store : List ℕ) (q : Queue) (k : Well q) where
       settle_well id (λ (op : OpSend). (op, of_receipt message_id)) (λ (p : Queue). with_ids (published id p.ids) p) (λ p h. record { out = h.out; pending = h.pending }) (answerable id q.pending) (found id q.pending)
   step_well (send_error id code) is64 = settle_well id (λ (op : OpSend). (op, code)) (λ (p : Queue). p) (λ p h. h) (answerable id q.pending) (found id q.pending)
   step_well (timeouts now room) is64 =
-      let n = due_count now (num_of q.settings.delays.send_timeout) q.pending in
+      let n = due_count now q.settings.delays.send_timeout q.pending in
       let gone = firsts n q.pending in
       hand_out_well room gone (with_pending (unmark_all gone (lasts n q.pending)) q)
       (record { out = k.out; pending = timed_entries gone n q.pending k.pending })

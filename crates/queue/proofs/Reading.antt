@@ -1,21 +1,20 @@
 -- What one push appends is read back: a single frame, a batch frame, the chunks of a message. A reading goes on frame by frame, so that frames
 -- that end between two messages can be read on their own.
+use Rattle.std.specs.Prelude.{Option, Some, None}
 use Prim.Native.Nat.{ℕ, zero, suc, ◌+◌, ◌*◌, ◌≤◌, ◌<◌}
 use mathlib.Core.Path.{◌≡◌, refl, sym, ap, ◌∙◌}
 use mathlib.Core.List.{List, [], ◌∷◌, ◌++◌, append_assoc, append-nil, map}
-use mathlib.Core.Option.{some, none}
 use native.Mathlib.Omega.{arith}
 use native.Mathlib.Numerals.{add-one}
 use native.Mathlib.Nat.{suc-mul}
 use lib.ListN.{length, take, drop}
 use lib.Seq.{take-add, drop-drop}
 use borrow.Author.Tests.{eq-eqb, ne_eqb}
-use Rattle.types.specs.Values.{part_of, txn_of}
+use Rattle.types.specs.Values.{part_of}
 use Rattle.types.specs.declared.frame.BatchFrame.{BatchFrame}
 use Rattle.types.specs.declared.frame.ChunkedMessageContext.{ChunkedMessageContext}
 use Rattle.types.specs.declared.frame.FrameRecord.{FrameRecord}
 use Rattle.types.specs.declared.message.SingleMessage.{SingleMessage}
-use Rattle.types.specs.declared.txn.MaybeTxnId.{MaybeTxnId}
 use Rattle.types.specs.declared.types.ProducerHandle.{ProducerHandle}
 use Rattle.wire.specs.Batch.{All, item_of, WithinBounds}
 use Rattle.wire.proofs.ItemLaws.{read_batch}
@@ -23,20 +22,21 @@ use Rattle.queue.specs.Frame.{Frame, single_frame, batch_frame, chunk_frame, chu
 use Rattle.queue.specs.Take.{next_chunk}
 use Rattle.queue.specs.Message.{Message, message_of}
 use Rattle.queue.specs.Read.{item_message, joined, Place, between, inside, Reading, chunks_read, read_frame, before, and_then, read_from}
+use Rattle.types.specs.declared.txn.TxnId.{TxnId}
 
 -- ── frames in a row ──
 
 before_nil : (r : Reading) → before [] r ≡ r
-before_nil none = refl
-before_nil (some p) = refl
+before_nil None = refl
+before_nil (Some p) = refl
 
 before_before : (xs ys : List Message) (r : Reading) → before xs (before ys r) ≡ before (xs ++ ys) r
-before_before xs ys none = refl
-before_before xs ys (some p) = rw (append_assoc xs ys p.1)
+before_before xs ys None = refl
+before_before xs ys (Some p) = rw (append_assoc xs ys p.1)
 
 before_then : (xs : List Message) (r : Reading) (f : Place → Reading) → before xs (and_then r f) ≡ and_then (before xs r) f
-before_then xs none f = refl
-before_then xs (some p) f = before_before xs p.1 (f p.0)
+before_then xs None f = refl
+before_then xs (Some p) f = before_before xs p.1 (f p.0)
 
 read_append : (at : Place) (a b : List Frame) → read_from at (a ++ b) ≡ and_then (read_from at a) (λ at₂. read_from at₂ b)
 unfolding read_from
@@ -45,12 +45,12 @@ read_append at (f ∷ a) b = go (read_frame at f) (λ at₂. read_append at₂ a
   where
     go : (r : Reading) → ((at₂ : Place) → read_from at₂ (a ++ b) ≡ and_then (read_from at₂ a) (λ at₃. read_from at₃ b))
         → and_then r (λ at₂. read_from at₂ (a ++ b)) ≡ and_then (and_then r (λ at₂. read_from at₂ a)) (λ at₂. read_from at₂ b)
-    go none again = refl
-    go (some p) again = rw (again p.0) (before_then p.1 (read_from p.0 a) (λ at₂. read_from at₂ b))
+    go None again = refl
+    go (Some p) again = rw (again p.0) (before_then p.1 (read_from p.0 a) (λ at₂. read_from at₂ b))
 
 -- frames that are read as whole messages
 abbrev pub ReadAs : List Frame → List Message → Type 0
-ReadAs fs ms = read_from between fs ≡ some (between, ms)
+ReadAs fs ms = read_from between fs ≡ Some (between, ms)
 
 pub read_more : (a b : List Frame) (xs ys : List Message) → ReadAs a xs → ReadAs b ys → ReadAs (a ++ b) (xs ++ ys)
 read_more a b xs ys p q = rw (read_append between a b, p, q)
@@ -63,15 +63,15 @@ unfolding read_from read_frame
 read_single_lem store handle r = refl
 
 -- the messages of a batch of a transaction
-abbrev pub batch_messages : List ℕ → MaybeTxnId → List SingleMessage → List Message
-batch_messages store txn ms = map (item_message (txn_of txn)) (map (item_of store) ms)
+abbrev pub batch_messages : List ℕ → Option TxnId → List SingleMessage → List Message
+batch_messages store txn ms = map (item_message txn) (map (item_of store) ms)
 
 pub read_batch_frame : (store : List ℕ) (handle : ProducerHandle) (r : FrameRecord) (b : BatchFrame) (ms : List SingleMessage)
     → b.num_messages ≡ length ms → All WithinBounds ms
     → ReadAs (batch_frame store handle r b ms ∷ []) (batch_messages store b.txn_id ms)
 unfolding read_from read_frame
 read_batch_frame store handle r b ms e h =
-    rw (e, read_batch store ms h) (ap (λ (l : List Message). some (between, l)) (append-nil (batch_messages store b.txn_id ms)))
+    rw (e, read_batch store ms h) (ap (λ (l : List Message). Some (between, l)) (append-nil (batch_messages store b.txn_id ms)))
 
 -- ── the chunks of a message ──
 
@@ -128,7 +128,7 @@ module _ (store : List ℕ) (handle : ProducerHandle) (r : FrameRecord) where
   run_ends : (n : ℕ) (c : ChunkedMessageContext) → Cut r.message.payload.len c.max_chunk_size c.total_chunks
       → c.next_chunk + suc n ≡ c.total_chunks
       → read_from (inside r.sequence_id c.total_chunks c.next_chunk (first (at c))) (chunk_run store handle r c (suc n))
-      ≡ some (between, message_of store r.message ∷ [])
+      ≡ Some (between, message_of store r.message ∷ [])
   unfolding read_from chunk_run
   run_ends zero c cut e =
       let k = c.next_chunk in

@@ -1,5 +1,6 @@
 -- A send keeps what holds, whichever way its message goes: no batch is open before a frame of its own, and a batch that it joins is of its
 -- transaction.
+use Rattle.std.specs.Prelude.{None, Option, Some}
 use Prim.Native.Nat.{ℕ, ◌+◌, ◌≤◌, ◌<◌}
 use mathlib.Core.Path.{◌≡◌, refl, sym}
 use mathlib.Core.Bool.{Bool, true, false, not, ◌&&◌}
@@ -11,8 +12,6 @@ use borrow.Author.Tests.{eqb-true, leb-false}
 use Rattle.laws.specs.Numbers.{add_sat}
 use Rattle.types.specs.Values.{part_in, maybe_in}
 use Rattle.types.specs.declared.message.OutgoingMessage.{OutgoingMessage}
-use Rattle.types.specs.declared.txn.MaybeTxnId.{MaybeTxnId}
-use Rattle.types.specs.declared.txn.MaybeTxnId.TheVariants as txn
 use Rattle.types.specs.declared.types.ProducerHandle.{ProducerHandle}
 use Rattle.types.specs.declared.way.Way.{Way}
 use Rattle.wire.specs.Batch.{All, WithinBounds}
@@ -33,6 +32,7 @@ use Rattle.queue.proofs.Reading.{chunk_run, from_first, Cut}
 use Rattle.queue.proofs.Groups.{Kept, all_append}
 use Rattle.queue.proofs.Chunking.{size_some, size_within, cut_holds, chunks_cut}
 use Rattle.queue.proofs.Sends.{Holds, Grows, flush_holds, single_holds, chunks_hold, join_holds}
+use Rattle.types.specs.declared.txn.TxnId.{TxnId}
 
 -- what a call has to keep, and what it appends
 pub record Keeps (store : List ℕ) (q : Queue) (c : Call) (took : List Frame) (acc : List Message) (all : List Frame) (r : Outcome (Gives c)) : Type 0 where
@@ -66,16 +66,16 @@ grows_more {all} first each g =
 
 -- ── tests of a send ──
 
-same_txn_lem : (a b : MaybeTxnId) → same_txn a b ≡ true → a ≡ b
-same_txn_lem txn.Absent txn.Absent h = refl
-same_txn_lem txn.Absent (txn.Present u) h = false_true h
-same_txn_lem (txn.Present t) txn.Absent h = false_true h
-same_txn_lem (txn.Present t) (txn.Present u) h =
+same_txn_lem : (a b : Option TxnId) → same_txn a b ≡ true → a ≡ b
+same_txn_lem None None h = refl
+same_txn_lem None (Some u) h = false_true h
+same_txn_lem (Some t) None h = false_true h
+same_txn_lem (Some t) (Some u) h =
     let x = eqb t.most_sig_bits u.most_sig_bits in
     let y = eqb t.least_sig_bits u.least_sig_bits in
     let p : t.most_sig_bits ≡ u.most_sig_bits = eqb-true t.most_sig_bits u.most_sig_bits (and_left x y h) in
     let q : t.least_sig_bits ≡ u.least_sig_bits = eqb-true t.least_sig_bits u.least_sig_bits (and_right x y h) in
-    λ i. txn.Present (record { most_sig_bits = p i; least_sig_bits = q i })
+    λ i. Some (record { most_sig_bits = p i; least_sig_bits = q i })
 
 -- no batch is in the way of a message that cannot join: none waits
 alone : (e j : Bool) → (not e && not j) ≡ false → j ≡ false → e ≡ true

@@ -1,4 +1,5 @@
 -- What was taken and what waits reads as the messages so far, and then come those of the open batch: each push of a send keeps it.
+use Rattle.std.specs.Prelude.{Option}
 use Prim.Native.Nat.{ℕ, zero, suc, ◌≤◌}
 use mathlib.Core.Path.{◌≡◌, refl, sym, ◌∙◌}
 use mathlib.Core.Bool.{Bool, true, false}
@@ -13,7 +14,6 @@ use Rattle.types.specs.declared.frame.FrameRecord.{FrameRecord}
 use Rattle.types.specs.declared.message.OutgoingMessage.{OutgoingMessage}
 use Rattle.types.specs.declared.message.SingleMessage.{SingleMessage}
 use Rattle.types.specs.declared.settings.ProducerSettings.{ProducerSettings}
-use Rattle.types.specs.declared.txn.MaybeTxnId.{MaybeTxnId}
 use Rattle.types.specs.declared.types.ProducerHandle.{ProducerHandle}
 use Rattle.wire.specs.Batch.{All, WithinBounds}
 use Rattle.queue.specs.Queue.{Outgoing}
@@ -25,6 +25,7 @@ use Rattle.queue.specs.Message.{Message, message_of}
 use Rattle.queue.proofs.Sound.{appended, joined_to}
 use Rattle.queue.proofs.Reading.{ReadAs, read_more, read_single_lem, batch_messages, read_batch_frame, chunk_run, from_first, Cut, read_chunks}
 use Rattle.queue.proofs.Groups.{Group, single, batch, chunks, record_in, held_in, frames_in, Kept, Agrees, frames_all, map_snoc, all_snoc, held_snoc, frames_snoc, Stands}
+use Rattle.types.specs.declared.txn.TxnId.{TxnId}
 
 -- `all` are the frames taken and waiting, which only grow at their end
 pub record Holds (store : List ℕ) (handle : ProducerHandle) (o : Outgoing) (took : List Frame) (accepted : List Message) (all : List Frame) : Type 0 where
@@ -49,7 +50,7 @@ all_bounds : (store : List ℕ) (ms : List SingleMessage) → All (Kept store) m
 all_bounds store [] k = tt
 all_bounds store (m ∷ ms) k = (k.0.bounds, all_bounds store ms k.1)
 
-batch_snoc : (store : List ℕ) (txn : MaybeTxnId) (ms : List SingleMessage) (m : SingleMessage)
+batch_snoc : (store : List ℕ) (txn : Option TxnId) (ms : List SingleMessage) (m : SingleMessage)
     → batch_messages store txn (ms ++ m ∷ []) ≡ batch_messages store txn ms ++ batch_messages store txn (m ∷ [])
 batch_snoc store txn [] m = refl
 batch_snoc store txn (x ∷ ms) m = rw (batch_snoc store txn ms m)

@@ -1,14 +1,13 @@
 -- Each call keeps what holds: a send goes its way, a take moves one frame, and the others leave what goes out alone.
+use Rattle.std.specs.Prelude.{Option, Some, None}
 use Prim.Native.Nat.{ℕ, ◌+◌}
 use mathlib.Core.Path.{◌≡◌, refl}
 use mathlib.Core.Bool.{Bool, true, false, not, ◌||◌}
 use mathlib.Core.List.{List, [], ◌∷◌, ◌++◌, append_assoc, append-nil}
-use mathlib.Core.Option.{Option, some, none}
 use lib.ListN.{length, take as firsts}
 use lib.Dec.{ltb, leb}
 use borrow.Author.Tests.{ltb-false}
 use Rattle.laws.specs.Choice.{pick}
-use Rattle.types.specs.Values.{num_of}
 use Rattle.types.specs.declared.entry.OpSend.{OpSend}
 use Rattle.queue.specs.Queue.{Queue, Outcome, done, refuse, with_pending, with_ids}
 use Rattle.types.specs.Ids.{of_receipt}
@@ -70,9 +69,9 @@ module _ (store : List ℕ) (q : Queue) (took : List Frame) (acc : List Message)
   settle_holds : {A : Type 0} (id : ℕ) (give : OpSend → A) (change : Queue → Queue) → ((p : Queue) → (change p).handle ≡ p.handle)
       → ((p : Queue) → (change p).out ≡ p.out) → (b : Bool) (op : Option OpSend) → let r = settle id give change q b op in
       Holds store r.0.handle r.0.out (took ++ []) (acc ++ []) all
-  settle_holds id give change e f true (some op) =
+  settle_holds id give change e f true (Some op) =
       rw (e (with_pending (settled id q.pending) q), f (with_pending (settled id q.pending) q)) stay
-  settle_holds id give change e f true none = stay
+  settle_holds id give change e f true None = stay
   settle_holds id give change e f false op = stay
 
   -- a table that is refused is a call like any other
@@ -97,7 +96,7 @@ module _ (store : List ℕ) (q : Queue) (took : List Frame) (acc : List Message)
   step_holds (send_error id code) is64 covered =
       quiet (send_error id code) _ (settle_holds id (λ (op : OpSend). (op, code)) (λ (p : Queue). p) (λ p. refl) (λ p. refl) (answerable id q.pending) (found id q.pending))
   step_holds (timeouts now room) is64 covered =
-      let gone = firsts (due_count now (num_of q.settings.delays.send_timeout) q.pending) q.pending in
+      let gone = firsts (due_count now q.settings.delays.send_timeout q.pending) q.pending in
       pick_ind (Keeps store q (timeouts now room) took acc all) (ltb room (length gone)) _ _
       (λ x. quiet (timeouts now room) _ stay)
       (λ x. quiet (timeouts now room) _ stay)

@@ -1,5 +1,5 @@
 -- Document 01, 'batch': joining, the frame of a batch, and the flush.
-use Rattle.std.specs.Prelude.{ℕ, zero, suc, ◌+◌, max, Bool, true, false, not, ◌&&◌, ◌||◌, List, replicate, leb, ltb, eqb, ℤ, pos, negsuc}
+use Rattle.std.specs.Prelude.{ℕ, zero, suc, ◌+◌, max, Bool, true, false, not, ◌&&◌, ◌||◌, List, replicate, leb, ltb, eqb, ℤ, pos, negsuc, None, Option, Some}
 use Rattle.laws.specs.Choice.{pick}
 use Rattle.laws.specs.Lists.{onto}
 use Rattle.laws.specs.Numbers.{add_sat}
@@ -9,21 +9,13 @@ use Rattle.types.specs.declared.batch.BatchContainer.{BatchContainer}
 use Rattle.types.specs.declared.frame.FrameRecord.{FrameRecord}
 use Rattle.types.specs.declared.frame.FrameKind.TheVariants as kind
 use Rattle.types.specs.declared.message.Part.{Part}
-use Rattle.types.specs.declared.message.MaybePart.TheVariants as part
 use Rattle.types.specs.declared.message.OutgoingMessage.{OutgoingMessage}
 use Rattle.types.specs.declared.message.SingleMessage.{SingleMessage}
-use Rattle.types.specs.declared.optional.MaybeU64.TheVariants as number
-use Rattle.types.specs.declared.optional.MaybeI64.TheVariants as time
-use Rattle.types.specs.declared.optional.MaybeI32.{MaybeI32}
-use Rattle.types.specs.declared.optional.MaybeI32.TheVariants as code
-use Rattle.types.specs.declared.optional.MaybeBool.TheVariants as mark
 use Rattle.types.specs.declared.settings.ProducerSettings.{ProducerSettings}
 use Rattle.types.specs.declared.stats.Counters.{Counters}
-use Rattle.types.specs.declared.txn.MaybeTxnId.{MaybeTxnId}
-use Rattle.types.specs.declared.txn.MaybeTxnId.TheVariants as txn
-use Rattle.types.specs.declared.types.MaybeMessageId.{MaybeMessageId}
-use Rattle.types.specs.declared.types.MaybeMessageId.TheVariants as source
 use Rattle.queue.specs.Queue.{Queue, Outgoing, Outcome, done, refuse}
+use Rattle.types.specs.declared.types.MessageId.{MessageId}
+use Rattle.types.specs.declared.txn.TxnId.{TxnId}
 
 -- ── joining ──
 
@@ -39,16 +31,16 @@ can_add_to_batch t b size num_messages =
     && leb (add_sat b.len (at_least_one num_messages)) t.limits.max_messages_in_batch
     && leb (add_sat b.current_size_bytes size) t.limits.max_batch_size_bytes
 
-abbrev pub no_source : MaybeMessageId → Bool
-no_source source.Absent = true
-no_source (source.Present id) = false
+abbrev pub no_source : Option MessageId → Bool
+no_source None = true
+no_source (Some id) = false
 
 -- no compression code, or code 0
-abbrev pub plain : MaybeI32 → Bool
-plain code.Absent = true
-plain (code.Present (pos zero)) = true
-plain (code.Present (pos (suc n))) = false
-plain (code.Present (negsuc n)) = false
+abbrev pub plain : Option ℤ → Bool
+plain None = true
+plain (Some (pos zero)) = true
+plain (Some (pos (suc n))) = false
+plain (Some (negsuc n)) = false
 
 -- not with a source message id or a compression code other than 0
 abbrev pub batchable : OutgoingMessage → Bool
@@ -61,11 +53,11 @@ abbrev pub is_empty : BatchContainer → Bool
 is_empty b = eqb b.len 0
 
 -- having no transaction differs from having one
-abbrev pub same_txn : MaybeTxnId → MaybeTxnId → Bool
-same_txn txn.Absent txn.Absent = true
-same_txn txn.Absent (txn.Present t) = false
-same_txn (txn.Present t) txn.Absent = false
-same_txn (txn.Present t) (txn.Present u) =
+abbrev pub same_txn : Option TxnId → Option TxnId → Bool
+same_txn None None = true
+same_txn None (Some t) = false
+same_txn (Some t) None = false
+same_txn (Some t) (Some u) =
     eqb t.most_sig_bits u.most_sig_bits && eqb t.least_sig_bits u.least_sig_bits
 
 -- what a batch keeps of a message
@@ -107,19 +99,19 @@ abbrev pub no_message : OutgoingMessage
 no_message =
     record {
       payload = no_part;
-      partition_key = part.Absent;
-      ordering_key = part.Absent;
-      schema_version = part.Absent;
+      partition_key = None;
+      ordering_key = None;
+      schema_version = None;
       producer_name = no_part;
-      event_time = number.Absent;
-      null_value = mark.Absent;
-      null_partition_key = mark.Absent;
-      deliver_at_time = time.Absent;
-      compression = code.Absent;
+      event_time = None;
+      null_value = None;
+      null_partition_key = None;
+      deliver_at_time = None;
+      compression = None;
       uncompressed_size = 0;
       num_messages = pos 0;
-      txn_id = txn.Absent;
-      source_message_id = source.Absent;
+      txn_id = None;
+      source_message_id = None;
     }
 
 abbrev pub no_uuid : List ℕ

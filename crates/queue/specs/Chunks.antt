@@ -1,6 +1,5 @@
 -- Which call made which frames, and how a message is cut into chunks (document 01, 'sends'; demand 3).
-use Rattle.std.specs.Prelude.{ℕ, ◌+◌, ◌≤◌, ◌≡◌, List, [], ◌∷◌, ◌++◌, length}
-use Rattle.std.proofs.Math.Option.{some, none}
+use Rattle.std.specs.Prelude.{ℕ, ◌+◌, ◌≤◌, ◌≡◌, List, [], ◌∷◌, ◌++◌, length, None, Some}
 use Rattle.types.specs.Values.{part_of}
 use Rattle.types.specs.declared.types.ProducerHandle.{ProducerHandle}
 use Rattle.types.specs.declared.types.SequenceId.{SequenceId}
@@ -15,7 +14,7 @@ use Rattle.queue.specs.Order.{AllCovered}
 abbrev pub Numbered : SequenceId → ℕ → ℕ → ℕ → List Frame → Type 0
 Numbered id limit n k [] = k ≡ n
 Numbered id limit n k (f ∷ fs) =
-    (f.metadata.sequence_id ≡ id) × (f.metadata.chunk_id ≡ some k) × (f.metadata.num_chunks ≡ some n) × (length f.payload ≤ limit)
+    (f.metadata.sequence_id ≡ id) × (f.metadata.chunk_id ≡ Some k) × (f.metadata.num_chunks ≡ Some n) × (length f.payload ≤ limit)
     × Numbered id limit n (k + 1) fs
 
 -- the payloads joined
@@ -36,7 +35,7 @@ pub data Cuts (store : List ℕ) (limit : ℕ) : Call → List Frame → Type 0 
   one_cut : {a : Sending} {fs : List Frame} → Chunks limit (part_of store a.message.payload) fs → Cuts store limit (send a) fs
 
 abbrev pub Unchunked : Frame → Type 0
-Unchunked f = f.metadata.chunk_id ≡ none
+Unchunked f = f.metadata.chunk_id ≡ None
 
 -- the frames of a run, call by call: each call appends some that are no chunks, and then the chunks of the message that it sends, none
 -- longer than the limit at its send

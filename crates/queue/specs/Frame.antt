@@ -1,8 +1,7 @@
 -- A frame: command, metadata with parts as bytes, and payload; and the frames of a waiting record (document 01, 'batch', 'sends').
-use Rattle.std.specs.Prelude.{ℕ, ◌+◌, ◌-◌, ◌*◌, ◌^◌, min, Bool, true, ◌&&◌, List, [], ◌∷◌, take, ltb, eqb, ℤ}
-use Rattle.std.proofs.Math.Option.{Option, some, none}
+use Rattle.std.specs.Prelude.{ℕ, ◌+◌, ◌-◌, ◌*◌, ◌^◌, min, Bool, true, ◌&&◌, List, [], ◌∷◌, take, ltb, eqb, ℤ, None, Option, Some}
 use Rattle.laws.specs.Choice.{pick}
-use Rattle.types.specs.Values.{part_of, bytes_of, num_of, mark_of, txn_of, int32_of, int64_of, id_of, name_of, part_in, maybe_in}
+use Rattle.types.specs.Values.{part_of, bytes_of, name_of, part_in, maybe_in}
 use Rattle.wire.specs.Batch.{batch_payload}
 use Rattle.wire.specs.Uuid.{uuid_text}
 use Rattle.types.specs.declared.frame.BatchFrame.{BatchFrame}
@@ -65,7 +64,7 @@ chunk_part r c =
 
 -- a batch's highest id only if greater than the lowest
 abbrev pub highest : SequenceId → SequenceId → Option ℕ
-highest low high = pick (ltb low.0 high.0) (some high.0) none
+highest low high = pick (ltb low.0 high.0) (Some high.0) None
 
 module _ (store : List ℕ) (handle : ProducerHandle) (r : FrameRecord) where
   -- the message's name, and the producer's when that is empty
@@ -83,10 +82,10 @@ module _ (store : List ℕ) (handle : ProducerHandle) (r : FrameRecord) where
           producer_id = handle;
           sequence_id = r.sequence_id;
           num_messages = num_messages;
-          txn = txn_of m.txn_id;
-          highest_sequence_id = none;
+          txn = m.txn_id;
+          highest_sequence_id = None;
           is_chunk = is_chunk;
-          message_id = id_of m.source_message_id;
+          message_id = m.source_message_id;
         };
         metadata = record {
           producer_name = frame_name;
@@ -95,15 +94,15 @@ module _ (store : List ℕ) (handle : ProducerHandle) (r : FrameRecord) where
           partition_key = bytes_of store m.partition_key;
           ordering_key = bytes_of store m.ordering_key;
           schema_version = bytes_of store m.schema_version;
-          event_time = num_of m.event_time;
-          null_value = mark_of m.null_value;
-          null_partition_key = mark_of m.null_partition_key;
-          deliver_at_time = int64_of m.deliver_at_time;
-          compression = int32_of m.compression;
+          event_time = m.event_time;
+          null_value = m.null_value;
+          null_partition_key = m.null_partition_key;
+          deliver_at_time = m.deliver_at_time;
+          compression = m.compression;
           uncompressed_size = uncompressed_size;
-          txn = txn_of m.txn_id;
-          highest_sequence_id = none;
-          num_messages_in_batch = none;
+          txn = m.txn_id;
+          highest_sequence_id = None;
+          num_messages_in_batch = None;
           chunk_id = chunk_id;
           num_chunks = num_chunks;
           total_chunk_msg_size = totalSize;
@@ -117,14 +116,14 @@ module _ (store : List ℕ) (handle : ProducerHandle) (r : FrameRecord) where
   single_frame =
       let m = r.message in
       let size = m.uncompressed_size in
-      message_frame (at_least_one m.num_messages) none (pick (ltb 0 size) (some size) none) none none none none (part_of store m.payload)
+      message_frame (at_least_one m.num_messages) None (pick (ltb 0 size) (Some size) None) None None None None (part_of store m.payload)
 
   -- a chunk bears 1 in its command only, and its size always
   abbrev pub chunk_frame : ChunkedMessageContext → Frame
   chunk_frame c =
       let m = r.message in
-      message_frame 1 (some true) (some m.uncompressed_size)
-      (some c.next_chunk) (some c.total_chunks) (some m.payload.len) (some (uuid_text r.uuid)) (part_of store (chunk_part r c))
+      message_frame 1 (Some true) (Some m.uncompressed_size)
+      (Some c.next_chunk) (Some c.total_chunks) (Some m.payload.len) (Some (uuid_text r.uuid)) (part_of store (chunk_part r c))
 
   -- a batch frame, with its messages; its size is the sum of payload lengths without headers, where 32 bits hold it
   abbrev pub batch_frame : BatchFrame → List SingleMessage → Frame
@@ -135,31 +134,31 @@ module _ (store : List ℕ) (handle : ProducerHandle) (r : FrameRecord) where
           producer_id = handle;
           sequence_id = r.sequence_id;
           num_messages = b.num_messages;
-          txn = txn_of b.txn_id;
+          txn = b.txn_id;
           highest_sequence_id = highest r.sequence_id b.highest_sequence_id;
-          is_chunk = none;
-          message_id = none;
+          is_chunk = None;
+          message_id = None;
         };
         metadata = record {
           producer_name = name_of r.producer_name;
           sequence_id = r.sequence_id;
           publish_time = r.publish_time;
-          partition_key = none;
-          ordering_key = none;
-          schema_version = none;
-          event_time = none;
-          null_value = none;
-          null_partition_key = none;
-          deliver_at_time = none;
-          compression = none;
-          uncompressed_size = pick (ltb size (2 ^ 32)) (some size) none;
-          txn = txn_of b.txn_id;
+          partition_key = None;
+          ordering_key = None;
+          schema_version = None;
+          event_time = None;
+          null_value = None;
+          null_partition_key = None;
+          deliver_at_time = None;
+          compression = None;
+          uncompressed_size = pick (ltb size (2 ^ 32)) (Some size) None;
+          txn = b.txn_id;
           highest_sequence_id = highest r.sequence_id b.highest_sequence_id;
-          num_messages_in_batch = some b.num_messages;
-          chunk_id = none;
-          num_chunks = none;
-          total_chunk_msg_size = none;
-          uuid = none;
+          num_messages_in_batch = Some b.num_messages;
+          chunk_id = None;
+          num_chunks = None;
+          total_chunk_msg_size = None;
+          uuid = None;
         };
         payload = batch_payload store ms;
       }

@@ -1,11 +1,9 @@
 -- Document 01, 'ids and clocks': sequence ids and deadlines.
-use Rattle.std.specs.Prelude.{ℕ, Bool, false, List, [], ◌∷◌, leb, ltb, eqb}
-use Rattle.std.proofs.Math.Option.{Option, some, none}
+use Rattle.std.specs.Prelude.{ℕ, Bool, false, List, [], ◌∷◌, leb, ltb, eqb, None, Option, Some}
 use Rattle.laws.specs.Choice.{pick}
 use Rattle.laws.specs.Numbers.{next_id, signed}
 use Rattle.types.specs.Ids.{before_next}
 use Rattle.types.specs.Time.{deadline_with_clamp}
-use Rattle.types.specs.Values.{num_of}
 use Rattle.types.specs.declared.entry.OpSend.{OpSend}
 use Rattle.types.specs.declared.stats.SequenceIds.{SequenceIds}
 use Rattle.queue.specs.Queue.{Queue, with_ids}
@@ -43,8 +41,8 @@ published id i =
 
 -- a time plus a delay, none without a delay
 abbrev pub after : Option ℕ → ℕ → Option ℕ
-after none time = none
-after (some delay) time = some (deadline_with_clamp time delay)
+after None time = None
+after (Some delay) time = Some (deadline_with_clamp time delay)
 
 -- an entry's deadline is the time of its send plus the send timeout
 abbrev pub send_deadline : Option ℕ → OpSend → Option ℕ
@@ -52,22 +50,22 @@ send_deadline timeout op = after timeout op.publish.enqueued_at
 
 -- that of the front entry, none without an entry or a timeout
 abbrev pub front_deadline : Option ℕ → List OpSend → Option ℕ
-front_deadline timeout [] = none
+front_deadline timeout [] = None
 front_deadline timeout (op ∷ l) = send_deadline timeout op
 
 unfoldable pub next_send_deadline : Queue → Option ℕ
-next_send_deadline q = front_deadline (num_of q.settings.delays.send_timeout) q.pending
+next_send_deadline q = front_deadline q.settings.delays.send_timeout q.pending
 
 -- a batch's: its first message's time plus the publish delay, none if either is absent ('batch')
 unfoldable pub next_batch_deadline : Queue → Option ℕ
 next_batch_deadline q =
     let b = q.out.batch in
-    pick (eqb b.len 0) none (after (num_of q.settings.delays.batching_max_publish_delay) b.first_added_at)
+    pick (eqb b.len 0) None (after q.settings.delays.batching_max_publish_delay b.first_added_at)
 
 -- a deadline that is there has passed
 abbrev pub elapsed : ℕ → Option ℕ → Bool
-elapsed now none = false
-elapsed now (some deadline) = leb deadline now
+elapsed now None = false
+elapsed now (Some deadline) = leb deadline now
 
 unfoldable pub batch_deadline_elapsed : ℕ → Queue → Bool
 batch_deadline_elapsed now q = elapsed now (next_batch_deadline q)

@@ -1,7 +1,6 @@
 -- What demand 3 compares of a message: document 01, 'How demand 3 is read'. Parts are the store's bytes, and absent differs from empty or false.
-use Rattle.std.specs.Prelude.{ℕ, Bool, List}
-use Rattle.std.proofs.Math.Option.{Option}
-use Rattle.types.specs.Values.{part_of, bytes_of, num_of, mark_of, txn_of}
+use Rattle.std.specs.Prelude.{ℕ, Bool, List, Option}
+use Rattle.types.specs.Values.{part_of, bytes_of}
 use Rattle.types.specs.declared.message.OutgoingMessage.{OutgoingMessage}
 use Rattle.types.specs.declared.txn.TxnId.{TxnId}
 
@@ -21,8 +20,8 @@ message_of store m =
       payload = part_of store m.payload;
       partition_key = bytes_of store m.partition_key;
       ordering_key = bytes_of store m.ordering_key;
-      event_time = num_of m.event_time;
-      null_value = mark_of m.null_value;
-      null_partition_key = mark_of m.null_partition_key;
-      txn = txn_of m.txn_id;
+      event_time = m.event_time;
+      null_value = m.null_value;
+      null_partition_key = m.null_partition_key;
+      txn = m.txn_id;
     }

@@ -1,6 +1,5 @@
 -- Demand 3, the order rule: nothing is lost, doubled, changed or put out of order (document 01, 'How demand 3 is read').
-use Rattle.std.specs.Prelude.{ℕ, ◌≤◌, ◌≡◌, true, List, [], ◌∷◌, ◌++◌}
-use Rattle.std.proofs.Math.Option.{some}
+use Rattle.std.specs.Prelude.{ℕ, ◌≤◌, ◌≡◌, true, List, [], ◌∷◌, ◌++◌, Some}
 use Rattle.types.specs.declared.types.ProducerHandle.{ProducerHandle}
 use Rattle.queue.specs.Queue.{Queue, Answer, refused, done, new_queue}
 use Rattle.queue.specs.Batch.{is_empty}
@@ -53,7 +52,7 @@ pub record InOrder (store : List ℕ) (handle : ProducerHandle) (cs : List Call)
   pub ends : Waiting store (after store (new_queue handle) cs) waiting
   pub only : (fs : List Frame) → Waiting store (after store (new_queue handle) cs) fs → fs ≡ waiting
   -- the list read and the accepted list are equal: in length and, place by place, in all that `Message` has
-  pub reads : read (taken store (new_queue handle) cs ++ waiting) ≡ some (accepted store (new_queue handle) cs)
+  pub reads : read (taken store (new_queue handle) cs ++ waiting) ≡ Some (accepted store (new_queue handle) cs)
 
 -- for every store, every handle and every list of calls from a new producer
 abbrev pub OrderRule : Type 0

@@ -1,5 +1,5 @@
 -- The send queue of a producer over plain lists, a new one, and what a call answers.
-use Rattle.std.specs.Prelude.{ℕ, false, List, [], negsuc}
+use Rattle.std.specs.Prelude.{ℕ, false, List, [], negsuc, None}
 use Rattle.types.specs.Empty.{empty_batch, empty_name}
 use Rattle.types.specs.declared.types.ProducerHandle.{ProducerHandle}
 use Rattle.types.specs.declared.settings.ProducerSettings.{ProducerSettings}
@@ -9,7 +9,6 @@ use Rattle.types.specs.declared.batch.BatchContainer.{BatchContainer}
 use Rattle.types.specs.declared.frame.FrameRecord.{FrameRecord}
 use Rattle.types.specs.declared.message.SingleMessage.{SingleMessage}
 use Rattle.types.specs.declared.entry.OpSend.{OpSend}
-use Rattle.types.specs.declared.optional.MaybeU64.TheVariants as number
 
 -- what goes out
 pub record Outgoing : Type 0 where
@@ -39,7 +38,7 @@ new_settings =
       name = empty_name;
       limits = record { max_message_size = 5242880; max_batch_size_bytes = 131072; max_messages_in_batch = 128 };
       switches = record { batching_enabled = false; chunking_enabled = false; broker_ready = false; closed = false };
-      delays = record { send_timeout = number.Absent; batching_max_publish_delay = number.Absent };
+      delays = record { send_timeout = None; batching_max_publish_delay = None };
     }
 
 abbrev pub empty_outgoing : Outgoing

@@ -1,6 +1,5 @@
 -- Frames are read from the front, by the layouts only (document 01, 'How demand 3 is read').
-use Rattle.std.specs.Prelude.{ℕ, zero, suc, ◌+◌, ◌&&◌, List, [], ◌∷◌, ◌++◌, map, eqb}
-use Rattle.std.proofs.Math.Option.{Option, some, none}
+use Rattle.std.specs.Prelude.{ℕ, zero, suc, ◌+◌, ◌&&◌, List, [], ◌∷◌, ◌++◌, map, eqb, None, Option, Some}
 use Rattle.laws.specs.Choice.{pick}
 use Rattle.wire.specs.Batch.{Item}
 use Rattle.wire.specs.Read.{read_items}
@@ -59,33 +58,33 @@ abbrev pub Reading : Type 0
 Reading = Option (Place × List Message)
 
 abbrev pub whole : Message → Reading
-whole m = some (between, m ∷ [])
+whole m = Some (between, m ∷ [])
 
 abbrev pub batch_read : Option TxnId → Option (List Item) → Reading
-batch_read txn none = none
-batch_read txn (some items) = some (between, map (item_message txn) items)
+batch_read txn None = None
+batch_read txn (Some items) = Some (between, map (item_message txn) items)
 
 -- k of n chunks are read: with the last one the message is whole
 abbrev pub chunks_read : SequenceId → ℕ → ℕ → Message → Reading
-chunks_read id n k m = pick (eqb k n) (whole m) (some (inside id n k m, []))
+chunks_read id n k m = pick (eqb k n) (whole m) (Some (inside id n k m, []))
 
 -- a frame between two messages, by its message count, chunk id and chunk count:
 -- a count, that many messages that fill the payload; chunk id 0 and a chunk count, the first of so many; neither, one message
 abbrev pub begin : Frame → Option ℕ → Option ℕ → Option ℕ → Reading
-begin f none none chunks = whole (frame_message f)
-begin f (some count) none chunks = batch_read f.metadata.txn (read_items count f.payload)
-begin f none (some zero) (some n) = chunks_read f.metadata.sequence_id n 1 (frame_message f)
-begin f none (some zero) none = none
-begin f none (some (suc k)) chunks = none
-begin f (some count) (some k) chunks = none
+begin f None None chunks = whole (frame_message f)
+begin f (Some count) None chunks = batch_read f.metadata.txn (read_items count f.payload)
+begin f None (Some zero) (Some n) = chunks_read f.metadata.sequence_id n 1 (frame_message f)
+begin f None (Some zero) None = None
+begin f None (Some (suc k)) chunks = None
+begin f (Some count) (Some k) chunks = None
 
 -- a frame inside a chunked message: no message count, the same sequence id and chunk count, and the next chunk id
 abbrev pub go_on : SequenceId → ℕ → ℕ → Message → Frame → Option ℕ → Option ℕ → Option ℕ → Reading
-go_on id n k m f none (some j) (some c) =
-    pick (eqb f.metadata.sequence_id.0 id.0 && eqb c n && eqb j k) (chunks_read id n (k + 1) (joined m f.payload)) none
-go_on id n k m f none (some j) none = none
-go_on id n k m f none none chunks = none
-go_on id n k m f (some count) j chunks = none
+go_on id n k m f None (Some j) (Some c) =
+    pick (eqb f.metadata.sequence_id.0 id.0 && eqb c n && eqb j k) (chunks_read id n (k + 1) (joined m f.payload)) None
+go_on id n k m f None (Some j) None = None
+go_on id n k m f None None chunks = None
+go_on id n k m f (Some count) j chunks = None
 
 unfoldable pub read_frame : Place → Frame → Reading
 read_frame between f = begin f f.metadata.num_messages_in_batch f.metadata.chunk_id f.metadata.num_chunks
@@ -93,24 +92,24 @@ read_frame (inside id n k m) f = go_on id n k m f f.metadata.num_messages_in_bat
 
 -- messages, and then those of a reading
 abbrev pub before : List Message → Reading → Reading
-before ms none = none
-before ms (some p) = some (p.0, ms ++ p.1)
+before ms None = None
+before ms (Some p) = Some (p.0, ms ++ p.1)
 
 abbrev pub and_then : Reading → (Place → Reading) → Reading
-and_then none more = none
-and_then (some p) more = before p.1 (more p.0)
+and_then None more = None
+and_then (Some p) more = before p.1 (more p.0)
 
 unfoldable pub read_from : Place → List Frame → Reading
-read_from at [] = some (at, [])
+read_from at [] = Some (at, [])
 read_from at (f ∷ fs) = and_then (read_frame at f) (λ at₂. read_from at₂ fs)
 
 abbrev pub end_of : Place → List Message → Option (List Message)
-end_of between ms = some ms
-end_of (inside id n k m) ms = none
+end_of between ms = Some ms
+end_of (inside id n k m) ms = None
 
 abbrev pub ended : Reading → Option (List Message)
-ended none = none
-ended (some p) = end_of p.0 p.1
+ended None = None
+ended (Some p) = end_of p.0 p.1
 
 -- the messages of a list of frames; a chunked message that breaks off has no reading
 unfoldable pub read : List Frame → Option (List Message)

@@ -1,13 +1,9 @@
 -- Calls on one producer, one after the other, each with the queue that the last one returned (document 01, 'How demand 3 is read').
-use Rattle.std.specs.Prelude.{ℕ, ◌<◌, ◌^◌, ◌≡◌, Bool, List, [], ◌∷◌, ◌++◌, length, ℤ}
-use Rattle.std.proofs.Math.Option.{Option}
+use Rattle.std.specs.Prelude.{ℕ, ◌<◌, ◌^◌, ◌≡◌, Bool, List, [], ◌∷◌, ◌++◌, length, ℤ, None, Option, Some}
 use Rattle.types.specs.declared.entry.OpSend.{OpSend}
-use Rattle.types.specs.declared.optional.MaybeU64.{MaybeU64}
-use Rattle.types.specs.declared.optional.MaybeU64.TheVariants as number
 use Rattle.types.specs.declared.settings.Setting.{Setting}
 use Rattle.types.specs.declared.stats.ProducerStats.{ProducerStats}
 use Rattle.types.specs.declared.types.MessageId.{MessageId}
-use Rattle.types.specs.declared.types.MaybeMessageIdData.{MaybeMessageIdData}
 use Rattle.queue.specs.Queue.{Queue, Answer, refused, done, Outcome}
 use Rattle.queue.specs.Settings as settings
 use Rattle.queue.specs.Ids.{set_initial_sequence_id, next_send_deadline, next_batch_deadline, batch_deadline_elapsed}
@@ -19,6 +15,7 @@ use Rattle.queue.specs.Settle.{apply_receipt, apply_send_error, drain_timed_out_
 use Rattle.queue.specs.Tables.{drain_pending_sends, snapshot_pending_sends, replay_snapshots, replay_pending_outbound}
 use Rattle.queue.specs.Queries.{may_add, outbound_len, stats}
 use Rattle.queue.specs.Message.{Message, message_of}
+use Rattle.types.specs.declared.types.MessageIdData.{MessageIdData}
 
 -- ── the calls ──
 
@@ -40,7 +37,7 @@ pub data Call : Type 0 where
   -- into a buffer of so many bytes
   take : ℕ → Call
   -- of a sequence id
-  receipt : ℕ → MaybeMessageIdData → Call
+  receipt : ℕ → Option MessageIdData → Call
   -- of a sequence id, with a code
   send_error : ℕ → ℤ → Call
   -- at a time, into a table of so many entries
@@ -176,9 +173,9 @@ pub data Waiting (store : List ℕ) : Queue → List Frame → Type 0 where
 -- ── the types' ranges ──
 
 -- no premise: it only says that a message's event time is a u64
-abbrev pub Is64 : MaybeU64 → Type 0
-Is64 number.Absent = Unit {0}
-Is64 (number.Present n) = n < 2 ^ 64
+abbrev pub Is64 : Option ℕ → Type 0
+Is64 None = Unit {0}
+Is64 (Some n) = n < 2 ^ 64
 
 abbrev pub Ranged : Call → Type 0
 Ranged (send a) = Is64 a.message.event_time

@@ -1,14 +1,12 @@
 -- Document 01, 'receipts, errors, snapshot, replay' and 'ids and clocks': what settles a pending entry, and what times it out.
-use Rattle.std.specs.Prelude.{ℕ, suc, Bool, true, false, ◌&&◌, ◌||◌, List, [], ◌∷◌, ◌++◌, map, length, take, drop, eqb, ltb, ℤ}
-use Rattle.std.proofs.Math.Option.{Option, some, none}
+use Rattle.std.specs.Prelude.{ℕ, suc, Bool, true, false, ◌&&◌, ◌||◌, List, [], ◌∷◌, ◌++◌, map, length, take, drop, eqb, ltb, ℤ, None, Option, Some}
 use Rattle.laws.specs.Choice.{pick}
 use Rattle.types.specs.Ids.{of_receipt}
-use Rattle.types.specs.Values.{num_of}
 use Rattle.types.specs.declared.entry.OpSend.{OpSend}
 use Rattle.types.specs.declared.types.MessageId.{MessageId}
-use Rattle.types.specs.declared.types.MaybeMessageIdData.{MaybeMessageIdData}
 use Rattle.queue.specs.Queue.{Queue, Outcome, done, refuse, with_ids, with_pending}
 use Rattle.queue.specs.Ids.{published, send_deadline, elapsed}
+use Rattle.types.specs.declared.types.MessageIdData.{MessageIdData}
 
 abbrev pub bears : ℕ → OpSend → Bool
 bears id op = eqb op.sequence_id.0 id
@@ -24,8 +22,8 @@ unmark id op = record { sequence_id = op.sequence_id; answerable = pick (bears i
 
 -- the search stops at the first entry that bears the id
 abbrev pub found : ℕ → List OpSend → Option OpSend
-found id [] = none
-found id (op ∷ l) = pick (bears id op) (some op) (found id l)
+found id [] = None
+found id (op ∷ l) = pick (bears id op) (Some op) (found id l)
 
 -- the entries without that one
 abbrev pub without : ℕ → List OpSend → List OpSend
@@ -38,12 +36,12 @@ settled id l = map (unmark id) (without id l)
 
 -- 11, id not answerable; else the entry found settles
 abbrev pub settle : {A : Type 0} → ℕ → (OpSend → A) → (Queue → Queue) → Queue → Bool → Option OpSend → Outcome A
-settle id give change q true (some op) = (change (with_pending (settled id q.pending) q), done (give op))
-settle id give change q true none = refuse 11 q
+settle id give change q true (Some op) = (change (with_pending (settled id q.pending) q), done (give op))
+settle id give change q true None = refuse 11 q
 settle id give change q false op = refuse 11 q
 
 -- `apply_receipt`: the published number becomes the id; the producer id is not looked at
-unfoldable pub apply_receipt : ℕ → MaybeMessageIdData → Queue → Outcome (OpSend × MessageId)
+unfoldable pub apply_receipt : ℕ → Option MessageIdData → Queue → Outcome (OpSend × MessageId)
 apply_receipt id message_id q =
     settle id (λ op. (op, of_receipt message_id)) (λ p. with_ids (published id p.ids) p) q (answerable id q.pending) (found id q.pending)
 
@@ -70,7 +68,7 @@ hand_out room gone before after = pick (ltb room (length gone)) (refuse 9 before
 -- `drain_timed_out_sends`: frames and batched messages stay; without a timeout none is due
 unfoldable pub drain_timed_out_sends : ℕ → ℕ → Queue → Outcome (List OpSend)
 drain_timed_out_sends now room q =
-    let n = due_count now (num_of q.settings.delays.send_timeout) q.pending in
+    let n = due_count now q.settings.delays.send_timeout q.pending in
     let gone = take n q.pending in
     hand_out room gone q (with_pending (unmark_all gone (drop n q.pending)) q)
 

@@ -5,31 +5,30 @@ ghost use Rattle.rules.specs.Batch.{makes_frame};
 
 use crate::numbers::{message_count, saturating_add};
 use crate::rings::Rings;
-use types::answer::CountOutcome;
 use types::batch::BatchContainer;
+use types::error::ProducerError;
 use types::message::{OutgoingMessage, SingleMessage};
-use types::optional::MaybeI32;
 use types::settings::ProducerSettings;
-use types::txn::MaybeTxnId;
-use types::types::{MaybeMessageId, SequenceId};
+use types::txn::TxnId;
+use types::types::{MessageId, SequenceId};
 use wire::batch::item_len;
 
-fn no_source(id: MaybeMessageId) -> bool
+fn no_source(id: Option<MessageId>) -> bool
     ensures { result ≡ no_source id }
 {
     match id {
-        MaybeMessageId::Absent => true,
-        MaybeMessageId::Present(_) => false,
+        None => true,
+        Some(_) => false,
     }
 }
 
 // No compression code, or code 0.
-fn is_plain(code: MaybeI32) -> bool
+fn is_plain(code: Option<i32>) -> bool
     ensures { result ≡ plain code }
 {
     match code {
-        MaybeI32::Absent => true,
-        MaybeI32::Present(n) => n == 0,
+        None => true,
+        Some(n) => n == 0,
     }
 }
 
@@ -62,17 +61,17 @@ pub fn can_add(
 }
 
 // Having no transaction differs from having one.
-pub fn same_txn(x: MaybeTxnId, y: MaybeTxnId) -> bool
+pub fn same_txn(x: Option<TxnId>, y: Option<TxnId>) -> bool
     ensures { result ≡ same_txn x y }
 {
     match x {
-        MaybeTxnId::Absent => match y {
-            MaybeTxnId::Absent => true,
-            MaybeTxnId::Present(_) => false,
+        None => match y {
+            None => true,
+            Some(_) => false,
         },
-        MaybeTxnId::Present(t) => match y {
-            MaybeTxnId::Absent => false,
-            MaybeTxnId::Present(u) => {
+        Some(t) => match y {
+            None => false,
+            Some(u) => {
                 (t.most_sig_bits == u.most_sig_bits) & (t.least_sig_bits == u.least_sig_bits)
             }
         },
@@ -135,11 +134,11 @@ pub fn with_message(b: BatchContainer, m: OutgoingMessage, id: u64, now: u64) ->
 }
 
 // Whether a flush that gives this answer makes its frame.
-pub fn makes_frame(o: CountOutcome) -> bool
+pub fn makes_frame(o: Result<usize, ProducerError>) -> bool
     ensures { result ≡ makes_frame o }
 {
     match o {
-        CountOutcome::Count(n) => 0 < n,
-        CountOutcome::Refused(_) => false,
+        Ok(n) => 0 < n,
+        Err(_) => false,
     }
 }

@@ -4,7 +4,7 @@ ghost use Rattle.types.specs.Values.{part_in, maybe_in, up_to};
 ghost use Rattle.queue.specs.Send.{message_in, within_bounds};
 
 use types::memory_limit::MemoryReservation;
-use types::message::{MaybePart, OutgoingMessage, Part};
+use types::message::{OutgoingMessage, Part};
 
 pub fn part_in(n: usize, p: Part) -> bool
     ensures { result ≡ part_in n p }
@@ -18,12 +18,12 @@ pub fn part_in(n: usize, p: Part) -> bool
 }
 
 // An absent part is not tested.
-pub fn maybe_part_in(n: usize, p: MaybePart) -> bool
+pub fn maybe_part_in(n: usize, p: Option<Part>) -> bool
     ensures { result ≡ maybe_in n p }
 {
     match p {
-        MaybePart::Absent => true,
-        MaybePart::Present(q) => part_in(n, q),
+        None => true,
+        Some(q) => part_in(n, q),
     }
 }
 
@@ -43,12 +43,12 @@ pub fn message_in(n: usize, m: OutgoingMessage) -> bool
         & part_in(n, producer_name)
 }
 
-pub fn up_to(most: usize, p: MaybePart) -> bool
+pub fn up_to(most: usize, p: Option<Part>) -> bool
     ensures { result ≡ up_to most p }
 {
     match p {
-        MaybePart::Absent => true,
-        MaybePart::Present(q) => q.len <= most,
+        None => true,
+        Some(q) => q.len <= most,
     }
 }
 

@@ -9,13 +9,12 @@ use crate::write::{
 };
 use plans::state::Core;
 use rules::numbers::at_most;
-use types::answer::{CountOutcome, Outcome, SendDecision};
+use types::answer::{SendDecision};
 use types::batch::BatchContainer;
 use types::entry::{OpSend, Publish, Replay};
 use types::error::ProducerError;
 use types::frame::ProducerName;
 use types::message::OutgoingMessage;
-use types::optional::MaybeU64;
 use types::outbound::{CommandSend, FrameName, MessageMetadata, UuidText};
 use types::settings::{Limits, ProducerSettings};
 use types::stats::{Counters, ProducerStats, SequenceIds};
@@ -57,24 +56,24 @@ pub fn put_refusal(out: &mut [u8], at: usize, code: u8, e: ProducerError) -> usi
     }
 }
 
-pub fn put_outcome(out: &mut [u8], at: usize, code: u8, o: Outcome) -> usize
+pub fn put_outcome(out: &mut [u8], at: usize, code: u8, o: Result<(), ProducerError>) -> usize
     ensures { Wrote at out.old out.new result }
 {
     match o {
-        Outcome::Done => put_status(out, at, code, 0),
-        Outcome::Refused(e) => put_refusal(out, at, code, e),
+        Ok(()) => put_status(out, at, code, 0),
+        Err(e) => put_refusal(out, at, code, e),
     }
 }
 
-pub fn put_count(out: &mut [u8], at: usize, code: u8, o: CountOutcome) -> usize
+pub fn put_count(out: &mut [u8], at: usize, code: u8, o: Result<usize, ProducerError>) -> usize
     ensures { Wrote at out.old out.new result }
 {
     match o {
-        CountOutcome::Count(n) => {
+        Ok(n) => {
             let to = put_status(out, at, code, 0);
             put_usize(out, to, n)
         }
-        CountOutcome::Refused(e) => put_refusal(out, at, code, e),
+        Err(e) => put_refusal(out, at, code, e),
     }
 }
 
@@ -91,11 +90,11 @@ pub fn put_decision(out: &mut [u8], at: usize, code: u8, d: SendDecision) -> usi
             let to = put_status(out, at, code, 0);
             put_u8(out, to, 0)
         }
-        SendDecision::Refused(e) => put_refusal(out, at, code, e),
+        Err(e) => put_refusal(out, at, code, e),
     }
 }
 
-pub fn put_deadline(out: &mut [u8], at: usize, code: u8, deadline: MaybeU64) -> usize
+pub fn put_deadline(out: &mut [u8], at: usize, code: u8, deadline: Option<u64>) -> usize
     ensures { Wrote at out.old out.new result }
 {
     let to = put_status(out, at, code, 0);
@@ -290,7 +289,7 @@ pub fn put_command(out: &mut [u8], at: usize, c: CommandSend) -> usize
     let sequence = c.sequence_id;
     let a = put_u64(out, at, producer.0);
     let b = put_u64(out, a, sequence.0);
-    let d = put_maybe_u32(out, b, MaybeU64::Present(c.num_messages));
+    let d = put_maybe_u32(out, b, Some(c.num_messages));
     put_command_rest(out, d, c)
 }
 
@@ -408,7 +407,7 @@ fn put_two_bools(out: &mut [u8], at: usize, first: bool, second: bool) -> usize
     put_bool(out, to, second)
 }
 
-fn put_two_maybe(out: &mut [u8], at: usize, first: MaybeU64, second: MaybeU64) -> usize
+fn put_two_maybe(out: &mut [u8], at: usize, first: Option<u64>, second: Option<u64>) -> usize
     ensures { Wrote at out.old out.new result }
 {
     let to = put_maybe_u64(out, at, first);

@@ -1,9 +1,8 @@
 // The bytes of a script (docs/SCRIPT.md, 'Numbers and values'). What does not lie within the script reads as zero.
-use types::message::{MaybePart, Part};
-use types::optional::{MaybeBool, MaybeI32, MaybeI64, MaybeU64};
+use types::message::{Part};
 use types::signed::signed_of;
-use types::txn::{MaybeTxnId, TxnId};
-use types::types::{MaybeMessageId, MaybeMessageIdData, MessageId, MessageIdData};
+use types::txn::{TxnId};
+use types::types::{MessageId, MessageIdData};
 
 // A place further on, as far as places go.
 pub fn behind(at: usize, n: usize) -> usize {
@@ -91,60 +90,60 @@ pub fn part_at(script: &[u8], at: usize) -> Part {
     }
 }
 
-pub fn maybe_part_at(script: &[u8], at: usize) -> MaybePart {
+pub fn maybe_part_at(script: &[u8], at: usize) -> Option<Part> {
     if bool_at(script, at) {
-        MaybePart::Present(part_at(script, behind(at, 1)))
+        Some(part_at(script, behind(at, 1)))
     } else {
-        MaybePart::Absent
+        None
     }
 }
 
-pub fn maybe_u64_at(script: &[u8], at: usize) -> MaybeU64 {
+pub fn maybe_u64_at(script: &[u8], at: usize) -> Option<u64> {
     if bool_at(script, at) {
-        MaybeU64::Present(u64_at(script, behind(at, 1)))
+        Some(u64_at(script, behind(at, 1)))
     } else {
-        MaybeU64::Absent
+        None
     }
 }
 
-pub fn maybe_i64_at(script: &[u8], at: usize) -> MaybeI64 {
+pub fn maybe_i64_at(script: &[u8], at: usize) -> Option<i64> {
     if bool_at(script, at) {
-        MaybeI64::Present(i64_at(script, behind(at, 1)))
+        Some(i64_at(script, behind(at, 1)))
     } else {
-        MaybeI64::Absent
+        None
     }
 }
 
-pub fn maybe_i32_at(script: &[u8], at: usize) -> MaybeI32 {
+pub fn maybe_i32_at(script: &[u8], at: usize) -> Option<i32> {
     if bool_at(script, at) {
-        MaybeI32::Present(i32_at(script, behind(at, 1)))
+        Some(i32_at(script, behind(at, 1)))
     } else {
-        MaybeI32::Absent
+        None
     }
 }
 
-pub fn maybe_bool_at(script: &[u8], at: usize) -> MaybeBool {
+pub fn maybe_bool_at(script: &[u8], at: usize) -> Option<bool> {
     if bool_at(script, at) {
-        MaybeBool::Present(bool_at(script, behind(at, 1)))
+        Some(bool_at(script, behind(at, 1)))
     } else {
-        MaybeBool::Absent
+        None
     }
 }
 
-pub fn maybe_txn_at(script: &[u8], at: usize) -> MaybeTxnId {
+pub fn maybe_txn_at(script: &[u8], at: usize) -> Option<TxnId> {
     if bool_at(script, at) {
-        MaybeTxnId::Present(TxnId {
+        Some(TxnId {
             most_sig_bits: u64_at(script, behind(at, 1)),
             least_sig_bits: u64_at(script, behind(at, 9)),
         })
     } else {
-        MaybeTxnId::Absent
+        None
     }
 }
 
-pub fn maybe_id_at(script: &[u8], at: usize) -> MaybeMessageId {
+pub fn maybe_id_at(script: &[u8], at: usize) -> Option<MessageId> {
     if bool_at(script, at) {
-        MaybeMessageId::Present(MessageId {
+        Some(MessageId {
             ledger_id: u64_at(script, behind(at, 1)),
             entry_id: u64_at(script, behind(at, 9)),
             partition: i32_at(script, behind(at, 17)),
@@ -152,16 +151,16 @@ pub fn maybe_id_at(script: &[u8], at: usize) -> MaybeMessageId {
             batch_size: i32_at(script, behind(at, 25)),
         })
     } else {
-        MaybeMessageId::Absent
+        None
     }
 }
 
-pub fn maybe_id_data_at(script: &[u8], at: usize) -> MaybeMessageIdData {
+pub fn maybe_id_data_at(script: &[u8], at: usize) -> Option<MessageIdData> {
     if bool_at(script, at) {
         let partition = maybe_i32_at(script, behind(at, 17));
         let batch_index = maybe_i32_at(script, behind(at, 22));
         let batch_size = maybe_i32_at(script, behind(at, 27));
-        MaybeMessageIdData::Present(MessageIdData {
+        Some(MessageIdData {
             ledger_id: u64_at(script, behind(at, 1)),
             entry_id: u64_at(script, behind(at, 9)),
             partition: partition,
@@ -169,7 +168,7 @@ pub fn maybe_id_data_at(script: &[u8], at: usize) -> MaybeMessageIdData {
             batch_size: batch_size,
         })
     } else {
-        MaybeMessageIdData::Absent
+        None
     }
 }
 

@@ -2,11 +2,10 @@
 // no room it writes nothing and gives the place itself.
 ghost use Rattle.script.specs.Output.{Wrote};
 
-use types::message::{MaybePart, Part};
-use types::optional::{MaybeBool, MaybeI32, MaybeI64, MaybeU64};
+use types::txn::TxnId;
+use types::message::{Part};
 use types::signed::bits_of;
-use types::txn::MaybeTxnId;
-use types::types::{MaybeMessageId, MessageId};
+use types::types::{MessageId};
 
 pub fn put_u8(out: &mut [u8], at: usize, v: u8) -> usize
     ensures { Wrote at out.old out.new result }
@@ -128,12 +127,12 @@ pub fn put_part_bytes(out: &mut [u8], at: usize, store: &[u8], p: Part) -> usize
     }
 }
 
-pub fn put_maybe_part_bytes(out: &mut [u8], at: usize, store: &[u8], p: MaybePart) -> usize
+pub fn put_maybe_part_bytes(out: &mut [u8], at: usize, store: &[u8], p: Option<Part>) -> usize
     ensures { Wrote at out.old out.new result }
 {
     match p {
-        MaybePart::Absent => put_u8(out, at, 0),
-        MaybePart::Present(q) => {
+        None => put_u8(out, at, 0),
+        Some(q) => {
             let to = put_u8(out, at, 1);
             put_part_bytes(out, to, store, q)
         }
@@ -147,24 +146,24 @@ pub fn put_part(out: &mut [u8], at: usize, p: Part) -> usize
     put_usize(out, to, p.len)
 }
 
-pub fn put_maybe_part(out: &mut [u8], at: usize, p: MaybePart) -> usize
+pub fn put_maybe_part(out: &mut [u8], at: usize, p: Option<Part>) -> usize
     ensures { Wrote at out.old out.new result }
 {
     match p {
-        MaybePart::Absent => put_u8(out, at, 0),
-        MaybePart::Present(q) => {
+        None => put_u8(out, at, 0),
+        Some(q) => {
             let to = put_u8(out, at, 1);
             put_part(out, to, q)
         }
     }
 }
 
-pub fn put_maybe_u64(out: &mut [u8], at: usize, v: MaybeU64) -> usize
+pub fn put_maybe_u64(out: &mut [u8], at: usize, v: Option<u64>) -> usize
     ensures { Wrote at out.old out.new result }
 {
     match v {
-        MaybeU64::Absent => put_u8(out, at, 0),
-        MaybeU64::Present(n) => {
+        None => put_u8(out, at, 0),
+        Some(n) => {
             let to = put_u8(out, at, 1);
             put_u64(out, to, n)
         }
@@ -172,60 +171,60 @@ pub fn put_maybe_u64(out: &mut [u8], at: usize, v: MaybeU64) -> usize
 }
 
 // A number that the port keeps in 64 bits and the protocol in 32.
-pub fn put_maybe_u32(out: &mut [u8], at: usize, v: MaybeU64) -> usize
+pub fn put_maybe_u32(out: &mut [u8], at: usize, v: Option<u64>) -> usize
     ensures { Wrote at out.old out.new result }
 {
     match v {
-        MaybeU64::Absent => put_u8(out, at, 0),
-        MaybeU64::Present(n) => {
+        None => put_u8(out, at, 0),
+        Some(n) => {
             let to = put_u8(out, at, 1);
             put_u32(out, to, (n % 0x1_0000_0000) as u32)
         }
     }
 }
 
-pub fn put_maybe_i64(out: &mut [u8], at: usize, v: MaybeI64) -> usize
+pub fn put_maybe_i64(out: &mut [u8], at: usize, v: Option<i64>) -> usize
     ensures { Wrote at out.old out.new result }
 {
     match v {
-        MaybeI64::Absent => put_u8(out, at, 0),
-        MaybeI64::Present(n) => {
+        None => put_u8(out, at, 0),
+        Some(n) => {
             let to = put_u8(out, at, 1);
             put_i64(out, to, n)
         }
     }
 }
 
-pub fn put_maybe_i32(out: &mut [u8], at: usize, v: MaybeI32) -> usize
+pub fn put_maybe_i32(out: &mut [u8], at: usize, v: Option<i32>) -> usize
     ensures { Wrote at out.old out.new result }
 {
     match v {
-        MaybeI32::Absent => put_u8(out, at, 0),
-        MaybeI32::Present(n) => {
+        None => put_u8(out, at, 0),
+        Some(n) => {
             let to = put_u8(out, at, 1);
             put_i32(out, to, n)
         }
     }
 }
 
-pub fn put_maybe_bool(out: &mut [u8], at: usize, v: MaybeBool) -> usize
+pub fn put_maybe_bool(out: &mut [u8], at: usize, v: Option<bool>) -> usize
     ensures { Wrote at out.old out.new result }
 {
     match v {
-        MaybeBool::Absent => put_u8(out, at, 0),
-        MaybeBool::Present(b) => {
+        None => put_u8(out, at, 0),
+        Some(b) => {
             let to = put_u8(out, at, 1);
             put_bool(out, to, b)
         }
     }
 }
 
-pub fn put_maybe_txn(out: &mut [u8], at: usize, v: MaybeTxnId) -> usize
+pub fn put_maybe_txn(out: &mut [u8], at: usize, v: Option<TxnId>) -> usize
     ensures { Wrote at out.old out.new result }
 {
     match v {
-        MaybeTxnId::Absent => put_u8(out, at, 0),
-        MaybeTxnId::Present(t) => {
+        None => put_u8(out, at, 0),
+        Some(t) => {
             let mark = put_u8(out, at, 1);
             let most = put_u64(out, mark, t.most_sig_bits);
             put_u64(out, most, t.least_sig_bits)
@@ -234,15 +233,15 @@ pub fn put_maybe_txn(out: &mut [u8], at: usize, v: MaybeTxnId) -> usize
 }
 
 // The two halves of a transaction as fields of their own, the lower first.
-pub fn put_txn_halves(out: &mut [u8], at: usize, v: MaybeTxnId) -> usize
+pub fn put_txn_halves(out: &mut [u8], at: usize, v: Option<TxnId>) -> usize
     ensures { Wrote at out.old out.new result }
 {
     match v {
-        MaybeTxnId::Absent => {
+        None => {
             let to = put_u8(out, at, 0);
             put_u8(out, to, 0)
         }
-        MaybeTxnId::Present(t) => {
+        Some(t) => {
             let least = put_u8(out, at, 1);
             let to = put_u64(out, least, t.least_sig_bits);
             let most = put_u8(out, to, 1);
@@ -261,12 +260,12 @@ pub fn put_message_id(out: &mut [u8], at: usize, id: MessageId) -> usize
     put_i32(out, index, id.batch_size)
 }
 
-pub fn put_maybe_id(out: &mut [u8], at: usize, v: MaybeMessageId) -> usize
+pub fn put_maybe_id(out: &mut [u8], at: usize, v: Option<MessageId>) -> usize
     ensures { Wrote at out.old out.new result }
 {
     match v {
-        MaybeMessageId::Absent => put_u8(out, at, 0),
-        MaybeMessageId::Present(id) => {
+        None => put_u8(out, at, 0),
+        Some(id) => {
             let to = put_u8(out, at, 1);
             put_message_id(out, to, id)
         }
@@ -281,12 +280,12 @@ fn put_maybe_here(out: &mut [u8], at: usize, v: i32) -> usize
 }
 
 // A message id as an optional id. Those that a message bears have all their numbers.
-pub fn put_maybe_id_data(out: &mut [u8], at: usize, v: MaybeMessageId) -> usize
+pub fn put_maybe_id_data(out: &mut [u8], at: usize, v: Option<MessageId>) -> usize
     ensures { Wrote at out.old out.new result }
 {
     match v {
-        MaybeMessageId::Absent => put_u8(out, at, 0),
-        MaybeMessageId::Present(id) => {
+        None => put_u8(out, at, 0),
+        Some(id) => {
             let to = put_u8(out, at, 1);
             let ledger = put_u64(out, to, id.ledger_id);
             let entry = put_u64(out, ledger, id.entry_id);

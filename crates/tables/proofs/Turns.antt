@@ -1,12 +1,9 @@
 -- The loops over entries: for each an invariant, that says what is left to do, with how it begins, goes on and ends. Assumes nothing.
+use Rattle.std.specs.Prelude.{None, Option, Some, ℕ}
 use Rattle.std.proofs.Common.{◌≡◌, ℕ, zero, suc, ◌+◌, ◌<◌, ◌≤◌, Bool, true, false, not, List, [], ◌∷◌, ◌++◌, length, get_or, take, drop, set, sym, refl, ap, ◌∙◌, append-nil, zero-le, add-one, arith, length-set, drop_of_length-le, length-take-le, drop-cons, get_or-take, take-suc-set}
-use mathlib.Core.Option.{Option}
 use lib.Seq.{append_snoc}
 use Rattle.laws.specs.Choice.{pick}
 use Rattle.types.specs.declared.entry.OpSend.{OpSend}
-use Rattle.types.specs.Values.{num_of}
-use Rattle.types.specs.declared.optional.MaybeU64.{MaybeU64}
-use Rattle.types.specs.declared.optional.MaybeU64.TheVariants.{Absent, Present}
 use Rattle.queue.specs.Ids.{after, elapsed}
 use Rattle.queue.specs.Settle.{due_count}
 use Rattle.queue.specs.Tables.{is_batched, framed_of}
@@ -20,9 +17,9 @@ pub front_at : {A : Type 0} (es : List A) (n i : ℕ) (d : A) → i < n → get_
 front_at es n i d h = get_or-take n es i d h
 
 -- the deadline of the code is that of the definitions
-pub due_is : (timeout : MaybeU64) (time sent : ℕ) → has_elapsed time (maybe_after timeout sent) ≡ elapsed time (after (num_of timeout) sent)
-due_is Absent time sent = refl
-due_is (Present d) time sent = refl
+pub due_is : (timeout : Option ℕ) (time sent : ℕ) → has_elapsed time (maybe_after timeout sent) ≡ elapsed time (after timeout sent)
+due_is None time sent = refl
+due_is (Some d) time sent = refl
 
 -- ── due entries: all up to i are ──
 

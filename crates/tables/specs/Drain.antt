@@ -1,10 +1,7 @@
 -- What the steps of a drain answer. These mirror the code, or speak of arrays where crate `queue` speaks of entries.
-use Rattle.std.specs.Prelude.{ℕ, Bool, List, [], ◌∷◌, length, nat_lt}
-use Rattle.std.proofs.Math.Option.{Option}
+use Rattle.std.specs.Prelude.{ℕ, Bool, List, [], ◌∷◌, length, nat_lt, None, Option, Some}
 use Rattle.laws.specs.Choice.{pick}
 use Rattle.types.specs.declared.entry.OpSend.{OpSend}
-use Rattle.types.specs.declared.optional.MaybeU64.{MaybeU64}
-use Rattle.types.specs.declared.optional.MaybeU64.TheVariants.{Absent, Present}
 use Rattle.queue.specs.Ids.{send_deadline, elapsed}
 use Rattle.queue.specs.Settle.{due_count}
 use Rattle.upkeep.specs.Pending.{cleared_all}
@@ -14,9 +11,9 @@ abbrev pub is_due : ℕ → Option ℕ → OpSend → Bool
 is_due time timeout op = elapsed time (send_deadline timeout op)
 
 -- how many entries a drain hands out: those that are due at a time, or all
-abbrev pub gone_count : MaybeU64 → Option ℕ → List OpSend → ℕ
-gone_count Absent timeout l = length l
-gone_count (Present time) timeout l = due_count time timeout l
+abbrev pub gone_count : Option ℕ → Option ℕ → List OpSend → ℕ
+gone_count None timeout l = length l
+gone_count (Some time) timeout l = due_count time timeout l
 
 -- as many as there are, or none where the table is too short
 abbrev pub handout_of : ℕ → ℕ → Handout

@@ -1,10 +1,8 @@
 -- What the scalars are after a drain or a snapshot. These mirror the code.
-use Rattle.std.specs.Prelude.{ℕ, ◌-◌, min, false}
+use Rattle.std.specs.Prelude.{ℕ, ◌-◌, min, false, None, Option, Some}
 use Rattle.laws.specs.Ring.{slot}
 use Rattle.types.specs.Empty.{empty_batch}
 use Rattle.types.specs.declared.settings.Setting.TheVariants.{BrokerReady}
-use Rattle.types.specs.declared.optional.MaybeU64.{MaybeU64}
-use Rattle.types.specs.declared.optional.MaybeU64.TheVariants.{Absent, Present}
 use Rattle.queue.specs.Settings.{changed}
 use Rattle.queue.specs.Tables.{failed}
 use Rattle.plans.specs.State.{core_rings}
@@ -41,9 +39,9 @@ core_emptied c =
       rings = rings_emptied c.rings;
     }
 
-abbrev pub core_after : MaybeU64 → ℕ → Core → Core
-core_after Absent n c = core_emptied c
-core_after (Present time) n c = core_without_front n c
+abbrev pub core_after : Option ℕ → ℕ → Core → Core
+core_after None n c = core_emptied c
+core_after (Some time) n c = core_without_front n c
 
 abbrev pub core_snapshot : ℕ → Core → Core
 core_snapshot n c =

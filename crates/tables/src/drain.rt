@@ -1,11 +1,9 @@
 // Which entries a drain hands out, and what it leaves of the index.
 ghost use Rattle.std.specs.Prelude.{◌≡◌, ◌≤◌, take};
-ghost use Rattle.types.specs.Values.{num_of};
 ghost use Rattle.queue.specs.Settle.{due_count};
 ghost use Rattle.tables.specs.Drain.{cleared_each, gone_count, handout_of, is_due};
 
 use types::entry::OpSend;
-use types::optional::MaybeU64;
 use upkeep::deadline::{after, elapsed};
 use upkeep::pending::unmark;
 
@@ -26,8 +24,8 @@ pub fn fitted(count: usize, room: usize) -> Handout
     }
 }
 
-fn is_due(op: OpSend, timeout: MaybeU64, time: u64) -> bool
-    ensures { result ≡ is_due time (num_of timeout) op }
+fn is_due(op: OpSend, timeout: Option<u64>, time: u64) -> bool
+    ensures { result ≡ is_due time timeout op }
 {
     let publish = op.publish;
     let deadline = after(timeout, publish.enqueued_at);
@@ -36,9 +34,9 @@ fn is_due(op: OpSend, timeout: MaybeU64, time: u64) -> bool
 
 // How many of the first n entries are due, from the front: it stops at the first that has time left, even if a later one is
 // due ('ids and clocks').
-pub fn due_count(entries: [OpSend; 256], n: usize, timeout: MaybeU64, time: u64) -> usize
+pub fn due_count(entries: [OpSend; 256], n: usize, timeout: Option<u64>, time: u64) -> usize
     requires { n ≤ 256 }
-    ensures { result ≡ due_count time (num_of timeout) (take n entries) }
+    ensures { result ≡ due_count time timeout (take n entries) }
 {
     let mut i: usize = 0;
     let r = loop {
@@ -56,13 +54,13 @@ pub fn due_count(entries: [OpSend; 256], n: usize, timeout: MaybeU64, time: u64)
 }
 
 // How many of the first n entries a drain hands out: those that are due at a time, or all.
-pub fn gone_count(entries: [OpSend; 256], n: usize, timeout: MaybeU64, due: MaybeU64) -> usize
+pub fn gone_count(entries: [OpSend; 256], n: usize, timeout: Option<u64>, due: Option<u64>) -> usize
     requires { n ≤ 256 }
-    ensures { result ≡ gone_count due (num_of timeout) (take n entries) }
+    ensures { result ≡ gone_count due timeout (take n entries) }
 {
     match due {
-        MaybeU64::Absent => n,
-        MaybeU64::Present(time) => due_count(entries, n, timeout, time),
+        None => n,
+        Some(time) => due_count(entries, n, timeout, time),
     }
 }
 

@@ -5,7 +5,6 @@ ghost use Rattle.tables.specs.Scalars.{core_without_front, core_emptied, core_af
 use plans::state::Core;
 use rules::numbers::{at_most, saturating_add_u64};
 use types::batch::BatchContainer;
-use types::optional::MaybeU64;
 
 // The first n entries leave, or all where there are fewer.
 pub fn without_front(c: Core, n: usize) -> Core
@@ -36,12 +35,12 @@ pub fn emptied(c: Core) -> Core
 }
 
 // After a drain of n entries: those that were due at a time, or all.
-pub fn after_drain(c: Core, due: MaybeU64, n: usize) -> Core
+pub fn after_drain(c: Core, due: Option<u64>, n: usize) -> Core
     ensures { result ≡ core_after due n c }
 {
     match due {
-        MaybeU64::Absent => emptied(c),
-        MaybeU64::Present(_) => without_front(c, n),
+        None => emptied(c),
+        Some(_) => without_front(c, n),
     }
 }
 

@@ -5,48 +5,47 @@ use crate::read::{Message, Messages};
 use crate::say::{self, Out};
 use crate::{show, story};
 use rules::batch::{same_txn, single_of};
-use types::message::{MaybePart, OutgoingMessage, Part, SingleMessage};
-use types::optional::{MaybeBool, MaybeU64};
+use types::message::{OutgoingMessage, Part, SingleMessage};
 
 fn same_part(store: &[u8], p: Part, bytes: &[u8], q: Part) -> bool {
     (p.len == q.len) & (bytes_at(store, p.start, p.len) == bytes_at(bytes, q.start, q.len))
 }
 
-fn same_key(store: &[u8], sent: MaybePart, bytes: &[u8], read: MaybePart) -> bool {
+fn same_key(store: &[u8], sent: Option<Part>, bytes: &[u8], read: Option<Part>) -> bool {
     match sent {
-        MaybePart::Absent => match read {
-            MaybePart::Absent => true,
-            MaybePart::Present(_) => false,
+        None => match read {
+            None => true,
+            Some(_) => false,
         },
-        MaybePart::Present(p) => match read {
-            MaybePart::Absent => false,
-            MaybePart::Present(q) => same_part(store, p, bytes, q),
+        Some(p) => match read {
+            None => false,
+            Some(q) => same_part(store, p, bytes, q),
         },
     }
 }
 
-fn same_time(sent: MaybeU64, read: MaybeU64) -> bool {
+fn same_time(sent: Option<u64>, read: Option<u64>) -> bool {
     match sent {
-        MaybeU64::Absent => match read {
-            MaybeU64::Absent => true,
-            MaybeU64::Present(_) => false,
+        None => match read {
+            None => true,
+            Some(_) => false,
         },
-        MaybeU64::Present(x) => match read {
-            MaybeU64::Absent => false,
-            MaybeU64::Present(y) => x == y,
+        Some(x) => match read {
+            None => false,
+            Some(y) => x == y,
         },
     }
 }
 
-fn same_mark(sent: MaybeBool, read: MaybeBool) -> bool {
+fn same_mark(sent: Option<bool>, read: Option<bool>) -> bool {
     match sent {
-        MaybeBool::Absent => match read {
-            MaybeBool::Absent => true,
-            MaybeBool::Present(_) => false,
+        None => match read {
+            None => true,
+            Some(_) => false,
         },
-        MaybeBool::Present(x) => match read {
-            MaybeBool::Absent => false,
-            MaybeBool::Present(y) => x == y,
+        Some(x) => match read {
+            None => false,
+            Some(y) => x == y,
         },
     }
 }

@@ -1,8 +1,7 @@
 // The fields of a single metadata, and an item of a batch's payload (document 01, 'batch'; crate wire, specs/Read.antt).
 use crate::parts::byte_at;
 use rules::numbers::{saturating_add, saturating_sub};
-use types::message::{MaybePart, Part, SingleMessage};
-use types::optional::{MaybeBool, MaybeU64};
+use types::message::{Part, SingleMessage};
 
 // A place in the bytes, the end of what is read, and whether all so far had a reading.
 #[derive(Clone, Copy)]
@@ -20,19 +19,19 @@ struct Number {
 
 #[derive(Clone, Copy)]
 struct PartField {
-    value: MaybePart,
+    value: Option<Part>,
     next: Cursor,
 }
 
 #[derive(Clone, Copy)]
 struct NumberField {
-    value: MaybeU64,
+    value: Option<u64>,
     next: Cursor,
 }
 
 #[derive(Clone, Copy)]
 struct MarkField {
-    value: MaybeBool,
+    value: Option<bool>,
     next: Cursor,
 }
 
@@ -116,7 +115,7 @@ fn part_field(bytes: &[u8], c: Cursor, key: u8) -> PartField {
         let next = n.next;
         let len = n.value as usize;
         PartField {
-            value: MaybePart::Present(Part {
+            value: Some(Part {
                 start: next.at,
                 len: len,
             }),
@@ -124,7 +123,7 @@ fn part_field(bytes: &[u8], c: Cursor, key: u8) -> PartField {
         }
     } else {
         PartField {
-            value: MaybePart::Absent,
+            value: None,
             next: c,
         }
     }
@@ -135,12 +134,12 @@ fn number_field(bytes: &[u8], c: Cursor, key: u8) -> NumberField {
         let n = varint(bytes, c.skip(1));
         let next = n.next;
         NumberField {
-            value: MaybeU64::Present(n.value),
+            value: Some(n.value),
             next: next,
         }
     } else {
         NumberField {
-            value: MaybeU64::Absent,
+            value: None,
             next: c,
         }
     }
@@ -151,12 +150,12 @@ fn mark_field(bytes: &[u8], c: Cursor, key: u8) -> MarkField {
     let value = n.value;
     let next = n.next;
     match value {
-        MaybeU64::Present(x) => MarkField {
-            value: MaybeBool::Present(x == 1),
+        Some(x) => MarkField {
+            value: Some(x == 1),
             next: next.only_if(x < 2),
         },
-        MaybeU64::Absent => MarkField {
-            value: MaybeBool::Absent,
+        None => MarkField {
+            value: None,
             next: next,
         },
     }
@@ -168,11 +167,11 @@ fn size_field(bytes: &[u8], c: Cursor) -> Number {
     let value = n.value;
     let next = n.next;
     match value {
-        MaybeU64::Present(x) => Number {
+        Some(x) => Number {
             value: x,
             next: next,
         },
-        MaybeU64::Absent => Number {
+        None => Number {
             value: 0,
             next: next.only_if(false),
         },

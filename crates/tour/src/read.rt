@@ -1,17 +1,16 @@
 // The frames are read back into messages, by their layout alone (document 01, 'How demand 3 is read').
+use types::txn::TxnId;
 use crate::fields::{Cursor, read_item};
 use crate::take::{Frame, Frames};
 use rules::batch::single_of;
 use rules::blank::no_message;
 use rules::numbers::{saturating_add, saturating_add_u64, saturating_sub};
 use types::message::{Part, SingleMessage};
-use types::optional::MaybeU64;
-use types::txn::MaybeTxnId;
 
 #[derive(Clone, Copy)]
 pub struct Message {
     pub fields: SingleMessage,
-    pub txn_id: MaybeTxnId,
+    pub txn_id: Option<TxnId>,
 }
 
 // The messages read so far, and whether every frame had a reading.
@@ -31,7 +30,7 @@ impl Messages {
         let fields = single_of(no_message());
         let message = Message {
             fields: fields,
-            txn_id: MaybeTxnId::Absent,
+            txn_id: None,
         };
         Messages {
             list: [message; 16],
@@ -52,7 +51,7 @@ impl Messages {
         self.chunks <= self.next_chunk
     }
 
-    fn add(mut self, fields: SingleMessage, txn_id: MaybeTxnId) -> Messages {
+    fn add(mut self, fields: SingleMessage, txn_id: Option<TxnId>) -> Messages {
         let n = self.len;
         if n < 16 {
             self.list[n] = Message {
@@ -112,8 +111,8 @@ impl Messages {
     fn chunk(self, f: Frame, chunk_id: u64) -> Messages {
         let given = f.num_chunks_from_msg;
         let count = match given {
-            MaybeU64::Present(n) => n,
-            MaybeU64::Absent => 0,
+            Some(n) => n,
+            None => 0,
         };
         let between = self.between_messages();
         if chunk_id == 0 {
@@ -159,10 +158,10 @@ impl Messages {
         let count = f.num_messages_in_batch;
         let chunk_id = f.chunk_id;
         match count {
-            MaybeU64::Present(n) => self.batch(bytes, f, n),
-            MaybeU64::Absent => match chunk_id {
-                MaybeU64::Present(n) => self.chunk(f, n),
-                MaybeU64::Absent => self.single(f),
+            Some(n) => self.batch(bytes, f, n),
+            None => match chunk_id {
+                Some(n) => self.chunk(f, n),
+                None => self.single(f),
             },
         }
     }

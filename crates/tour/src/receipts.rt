@@ -1,25 +1,24 @@
 // Receipts come back (document 01, 'receipts, errors, snapshot, replay').
+use types::error::ProducerError;
 use crate::say::{self, Out};
 use crate::send::{Standing, say_pending, say_standing, standing_of};
 use producer::state::ProducerState;
-use types::answer::Outcome;
 use types::command::CommandSendReceipt;
-use types::optional::MaybeI32;
 use types::signed::bits_of;
 use types::stats::ProducerStats;
-use types::types::{MaybeMessageIdData, MessageId, MessageIdData, ProducerHandle, SequenceId};
+use types::types::{MessageId, MessageIdData, ProducerHandle, SequenceId};
 
 // The broker has stored the message under that id as this entry of ledger 9.
 fn receipt(id: u64, entry_id: u64) -> CommandSendReceipt {
     CommandSendReceipt {
         producer_id: ProducerHandle(7),
         sequence_id: SequenceId(id),
-        message_id: MaybeMessageIdData::Present(MessageIdData {
+        message_id: Some(MessageIdData {
             ledger_id: 9,
             entry_id: entry_id,
-            partition: MaybeI32::Absent,
-            batch_index: MaybeI32::Absent,
-            batch_size: MaybeI32::Absent,
+            partition: None,
+            batch_index: None,
+            batch_size: None,
         }),
     }
 }
@@ -27,7 +26,7 @@ fn receipt(id: u64, entry_id: u64) -> CommandSendReceipt {
 fn say_receipt(
     out: &mut Out,
     id: u64,
-    answer: Outcome,
+    answer: Result<(), ProducerError>,
     stored: MessageId,
     published: i64,
     after: Standing,
@@ -36,13 +35,13 @@ fn say_receipt(
     say::number(out, id);
     say::text(out, b": ");
     match answer {
-        Outcome::Done => {
+        Ok(()) => {
             say::text(out, b"settled, stored as ");
             say::number(out, stored.ledger_id);
             say::text(out, b":");
             say::number(out, stored.entry_id);
         }
-        Outcome::Refused(e) => {
+        Err(e) => {
             say::refusal(out, e);
         }
     }

@@ -1,9 +1,10 @@
 // The messages go to the queue (document 01, 'sends').
+use types::error::ProducerError;
 use crate::say::{self, Out};
 use crate::story;
 use producer::state::ProducerState;
 use rules::numbers::saturating_sub;
-use types::answer::{CountOutcome, SendDecision};
+use types::answer::{SendDecision};
 use types::message::OutgoingMessage;
 
 // For the chunks.
@@ -27,7 +28,7 @@ fn decision(out: &mut Out, d: SendDecision, pushed: usize) {
         SendDecision::Batched => {
             say::text(out, b"joins the batch");
         }
-        SendDecision::Refused(e) => {
+        Err(e) => {
             say::refusal(out, e);
         }
     }
@@ -115,13 +116,13 @@ pub fn send_too_long(out: &mut Out, s: ProducerState, store: &[u8]) -> ProducerS
     send(out, s, store, story::too_long())
 }
 
-fn say_flushed(out: &mut Out, answer: CountOutcome, after: Standing) {
+fn say_flushed(out: &mut Out, answer: Result<usize, ProducerError>, after: Standing) {
     say::text(out, b"flush: ");
     match answer {
-        CountOutcome::Count(n) => {
+        Ok(n) => {
             say::count(out, n as u64, b" frame", b" frames");
         }
-        CountOutcome::Refused(e) => {
+        Err(e) => {
             say::refusal(out, e);
         }
     }

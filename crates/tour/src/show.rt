@@ -1,15 +1,15 @@
 // Frames and messages in words.
+use types::txn::TxnId;
+use types::message::Part;
 use crate::parts::bytes_at;
 use crate::say::{self, Out};
 use rules::numbers::saturating_add_u64;
-use types::message::{MaybePart, SingleMessage};
-use types::optional::{MaybeBool, MaybeU64};
+use types::message::{SingleMessage};
 use types::outbound::{MessageMetadata, OutboundFrame, UuidText};
-use types::txn::MaybeTxnId;
 use types::types::SequenceId;
 
-fn number(out: &mut Out, before: &[u8], n: MaybeU64) {
-    if let MaybeU64::Present(x) = n {
+fn number(out: &mut Out, before: &[u8], n: Option<u64>) {
+    if let Some(x) = n {
         say::text(out, before);
         say::number(out, x);
     }
@@ -20,40 +20,40 @@ fn kind(out: &mut Out, m: MessageMetadata) {
     let chunk_id = m.chunk_id;
     let chunks = m.num_chunks_from_msg;
     match count {
-        MaybeU64::Present(n) => {
+        Some(n) => {
             say::text(out, b"batch of ");
             say::count(out, n, b" message", b" messages");
         }
-        MaybeU64::Absent => match chunk_id {
-            MaybeU64::Present(n) => {
+        None => match chunk_id {
+            Some(n) => {
                 say::text(out, b"chunk ");
                 say::number(out, saturating_add_u64(n, 1));
                 number(out, b" of ", chunks);
             }
-            MaybeU64::Absent => {
+            None => {
                 say::text(out, b"single message");
             }
         },
     }
 }
 
-fn ids(out: &mut Out, lowest: SequenceId, highest: MaybeU64) {
+fn ids(out: &mut Out, lowest: SequenceId, highest: Option<u64>) {
     match highest {
-        MaybeU64::Present(n) => {
+        Some(n) => {
             say::text(out, b", sequence ids ");
             say::number(out, lowest.0);
             say::text(out, b" to ");
             say::number(out, n);
         }
-        MaybeU64::Absent => {
+        None => {
             say::text(out, b", sequence id ");
             say::number(out, lowest.0);
         }
     }
 }
 
-fn transaction(out: &mut Out, t: MaybeTxnId) {
-    if let MaybeTxnId::Present(id) = t {
+fn transaction(out: &mut Out, t: Option<TxnId>) {
+    if let Some(id) = t {
         say::text(out, b", transaction ");
         say::number(out, id.most_sig_bits);
         say::text(out, b":");
@@ -99,15 +99,15 @@ pub fn frame(out: &mut Out, place: usize, f: OutboundFrame, payload: &[u8]) {
     quoted(out, payload);
 }
 
-fn key(out: &mut Out, name: &[u8], bytes: &[u8], k: MaybePart) {
-    if let MaybePart::Present(p) = k {
+fn key(out: &mut Out, name: &[u8], bytes: &[u8], k: Option<Part>) {
+    if let Some(p) = k {
         say::text(out, name);
         say::printable(out, bytes_at(bytes, p.start, p.len));
     }
 }
 
-fn mark(out: &mut Out, name: &[u8], m: MaybeBool) {
-    if let MaybeBool::Present(yes) = m {
+fn mark(out: &mut Out, name: &[u8], m: Option<bool>) {
+    if let Some(yes) = m {
         if yes {
             say::text(out, name);
         }
@@ -115,7 +115,7 @@ fn mark(out: &mut Out, name: &[u8], m: MaybeBool) {
 }
 
 // A message whose parts are in the bytes.
-pub fn message(out: &mut Out, place: usize, bytes: &[u8], m: SingleMessage, txn_id: MaybeTxnId) {
+pub fn message(out: &mut Out, place: usize, bytes: &[u8], m: SingleMessage, txn_id: Option<TxnId>) {
     let payload = m.payload;
     let partition_key = m.partition_key;
     let ordering_key = m.ordering_key;

@@ -3,11 +3,10 @@ use crate::say::{self, Out};
 use producer::state::ProducerState;
 use rules::blank::no_message;
 use rules::numbers::saturating_add;
-use types::message::{MaybePart, OutgoingMessage, Part};
-use types::optional::{MaybeBool, MaybeU64};
+use types::message::{OutgoingMessage, Part};
 use types::settings::Setting;
-use types::txn::{MaybeTxnId, TxnId};
-use types::types::{MaybeMessageId, MessageId, ProducerHandle};
+use types::txn::{TxnId};
+use types::types::{MessageId, ProducerHandle};
 
 // How many messages there are. They are numbered from 1, as their sequence ids are.
 pub const MESSAGES: u64 = 7;
@@ -56,7 +55,7 @@ fn row(start: usize, key_len: usize, len: usize) -> OutgoingMessage {
             start: saturating_add(start, 8),
             len: len,
         },
-        partition_key: MaybePart::Present(Part {
+        partition_key: Some(Part {
             start: start,
             len: key_len,
         }),
@@ -65,8 +64,8 @@ fn row(start: usize, key_len: usize, len: usize) -> OutgoingMessage {
     }
 }
 
-fn transaction() -> MaybeTxnId {
-    MaybeTxnId::Present(TxnId {
+fn transaction() -> Option<TxnId> {
+    Some(TxnId {
         most_sig_bits: 1,
         least_sig_bits: 7,
     })
@@ -74,7 +73,7 @@ fn transaction() -> MaybeTxnId {
 
 fn quote() -> OutgoingMessage {
     OutgoingMessage {
-        event_time: MaybeU64::Present(1_700_000_000_000),
+        event_time: Some(1_700_000_000_000),
         ..row(0, 5, 19)
     }
 }
@@ -82,7 +81,7 @@ fn quote() -> OutgoingMessage {
 // A null value takes back what the key stood for.
 fn withdrawal() -> OutgoingMessage {
     OutgoingMessage {
-        null_value: MaybeBool::Present(true),
+        null_value: Some(true),
         ..row(0, 5, 0)
     }
 }
@@ -90,7 +89,7 @@ fn withdrawal() -> OutgoingMessage {
 // A message with a source message id is not batchable.
 fn replicated_quote() -> OutgoingMessage {
     OutgoingMessage {
-        source_message_id: MaybeMessageId::Present(MessageId {
+        source_message_id: Some(MessageId {
             ledger_id: 3,
             entry_id: 14,
             partition: -1,
@@ -104,7 +103,7 @@ fn replicated_quote() -> OutgoingMessage {
 // Ordered by the quote's number, which is a part of the payload.
 fn acceptance() -> OutgoingMessage {
     OutgoingMessage {
-        ordering_key: MaybePart::Present(Part { start: 110, len: 2 }),
+        ordering_key: Some(Part { start: 110, len: 2 }),
         txn_id: transaction(),
         ..row(96, 5, 17)
     }
@@ -112,8 +111,8 @@ fn acceptance() -> OutgoingMessage {
 
 fn summary() -> OutgoingMessage {
     OutgoingMessage {
-        partition_key: MaybePart::Absent,
-        null_partition_key: MaybeBool::Present(true),
+        partition_key: None,
+        null_partition_key: Some(true),
         txn_id: transaction(),
         ..row(128, 0, 15)
     }

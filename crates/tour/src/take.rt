@@ -1,4 +1,6 @@
 // The frames are taken from the front, and kept.
+use types::txn::TxnId;
+use types::error::ProducerError;
 use crate::parts::bytes_at;
 use crate::say::{self, Out};
 use crate::show;
@@ -6,21 +8,18 @@ use producer::state::ProducerState;
 use rules::batch::single_of;
 use rules::blank::no_message;
 use rules::numbers::{at_most, saturating_add};
-use types::answer::Outcome;
-use types::message::{MaybePart, Part, SingleMessage};
-use types::optional::MaybeU64;
+use types::message::{Part, SingleMessage};
 use types::outbound::{MessageMetadata, OutboundFrame};
-use types::txn::MaybeTxnId;
 
 // A frame as it goes over the wire: payload and keys are parts of the bytes taken, and nothing of the store is in it.
 #[derive(Clone, Copy)]
 pub struct Frame {
     pub sequence_id: u64,
     pub message: SingleMessage,
-    pub txn_id: MaybeTxnId,
-    pub num_messages_in_batch: MaybeU64,
-    pub chunk_id: MaybeU64,
-    pub num_chunks_from_msg: MaybeU64,
+    pub txn_id: Option<TxnId>,
+    pub num_messages_in_batch: Option<u64>,
+    pub chunk_id: Option<u64>,
+    pub num_chunks_from_msg: Option<u64>,
 }
 
 // The frames taken so far, and how far the bytes taken go: payloads one behind the other, and keys likewise.
@@ -41,10 +40,10 @@ impl Frames {
         let frame = Frame {
             sequence_id: 0,
             message: message,
-            txn_id: MaybeTxnId::Absent,
-            num_messages_in_batch: MaybeU64::Absent,
-            chunk_id: MaybeU64::Absent,
-            num_chunks_from_msg: MaybeU64::Absent,
+            txn_id: None,
+            num_messages_in_batch: None,
+            chunk_id: None,
+            num_chunks_from_msg: None,
         };
         Frames {
             list: [frame; 16],
@@ -58,7 +57,7 @@ impl Frames {
 // A key of the metadata as bytes, and the place behind it.
 #[derive(Clone, Copy)]
 struct Key {
-    part: MaybePart,
+    part: Option<Part>,
     next: usize,
 }
 
@@ -74,16 +73,16 @@ fn put(bytes: &mut [u8], at: usize, key: &[u8]) -> usize {
     end
 }
 
-fn put_key(bytes: &mut [u8], at: usize, store: &[u8], key: MaybePart) -> Key {
+fn put_key(bytes: &mut [u8], at: usize, store: &[u8], key: Option<Part>) -> Key {
     match key {
-        MaybePart::Absent => Key {
-            part: MaybePart::Absent,
+        None => Key {
+            part: None,
             next: at,
         },
-        MaybePart::Present(p) => {
+        Some(p) => {
             let next = put(bytes, at, bytes_at(store, p.start, p.len));
             Key {
-                part: MaybePart::Present(Part {
+                part: Some(Part {
                     start: at,
                     len: p.len,
                 }),
@@ -96,8 +95,8 @@ fn put_key(bytes: &mut [u8], at: usize, store: &[u8], key: MaybePart) -> Key {
 fn frame_of(
     m: MessageMetadata,
     payload: Part,
-    partition_key: MaybePart,
-    ordering_key: MaybePart,
+    partition_key: Option<Part>,
+    ordering_key: Option<Part>,
 ) -> Frame {
     let id = m.sequence_id;
     let event_time = m.event_time;
@@ -154,11 +153,11 @@ fn told(
     frames: Frames,
     bytes: &mut [u8],
     store: &[u8],
-    answer: Outcome,
+    answer: Result<(), ProducerError>,
     f: OutboundFrame,
 ) -> Frames {
     match answer {
-        Outcome::Done => {
+        Ok(()) => {
             let kept = keep(frames, bytes, store, f);
             show::frame(
                 out,
@@ -168,7 +167,7 @@ fn told(
             );
             kept
         }
-        Outcome::Refused(e) => {
+        Err(e) => {
             say::text(out, b"one more take: ");
             say::refusal(out, e);
             say::line(out, b"");

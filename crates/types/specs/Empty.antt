@@ -1,8 +1,7 @@
 -- The empty batch and the empty name.
-use Rattle.std.specs.Prelude.{replicate}
+use Rattle.std.specs.Prelude.{replicate, None}
 use Rattle.types.specs.declared.batch.BatchContainer.{BatchContainer}
 use Rattle.types.specs.declared.frame.ProducerName.{ProducerName}
-use Rattle.types.specs.declared.txn.MaybeTxnId.TheVariants as txn
 
 -- `BatchContainer::empty`
 abbrev pub empty_batch : BatchContainer
@@ -14,7 +13,7 @@ empty_batch =
       lowest_sequence_id = record { 0 = 0 };
       highest_sequence_id = record { 0 = 0 };
       first_added_at = 0;
-      txn_id = txn.Absent;
+      txn_id = None;
     }
 
 abbrev pub empty_name : ProducerName

@@ -1,17 +1,13 @@
 -- Document 01, types.rs, and the ids of producer.rs.
-use Rattle.std.specs.Prelude.{ℕ, ℤ, pos, negsuc}
+use Rattle.std.specs.Prelude.{ℕ, ℤ, pos, negsuc, None, Option, Some}
 use Rattle.laws.specs.Numbers.{signed, less_one}
-use Rattle.types.specs.declared.optional.MaybeI32.{MaybeI32}
-use Rattle.types.specs.declared.optional.MaybeI32.TheVariants as number
 use Rattle.types.specs.declared.types.MessageId.{MessageId}
 use Rattle.types.specs.declared.types.MessageIdData.{MessageIdData}
-use Rattle.types.specs.declared.types.MaybeMessageIdData.{MaybeMessageIdData}
-use Rattle.types.specs.declared.types.MaybeMessageIdData.TheVariants as given
 
 -- an absent number becomes -1
-abbrev pub or_minus_one : MaybeI32 → ℤ
-or_minus_one number.Absent = negsuc 0
-or_minus_one (number.Present n) = n
+abbrev pub or_minus_one : Option ℤ → ℤ
+or_minus_one None = negsuc 0
+or_minus_one (Some n) = n
 
 -- an absent partition, batch index or batch size becomes -1
 abbrev pub from_pb : MessageIdData → MessageId
@@ -25,9 +21,9 @@ from_pb pb =
     }
 
 -- the id that a receipt answers; one with no message id at all: (0, 0, -1, -1, 0)
-abbrev pub of_receipt : MaybeMessageIdData → MessageId
-of_receipt given.Absent = record { ledger_id = 0; entry_id = 0; partition = negsuc 0; batch_index = negsuc 0; batch_size = pos 0 }
-of_receipt (given.Present pb) = from_pb pb
+abbrev pub of_receipt : Option MessageIdData → MessageId
+of_receipt None = record { ledger_id = 0; entry_id = 0; partition = negsuc 0; batch_index = negsuc 0; batch_size = pos 0 }
+of_receipt (Some pb) = from_pb pb
 
 -- the pushed and the published number of a producer whose next id is set, to one above 0:
 -- the next id read as a signed 64-bit number, less 1, stopping at -2^63

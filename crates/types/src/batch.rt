@@ -2,7 +2,7 @@
 ghost use Rattle.std.specs.Prelude.{◌≡◌};
 ghost use Rattle.types.specs.Empty.{empty_batch};
 
-use crate::txn::MaybeTxnId;
+use crate::txn::TxnId;
 use crate::types::SequenceId;
 
 // The messages that joined since the last flush. They are the last `len` of those held; while there is none the other fields
@@ -19,7 +19,7 @@ pub struct BatchContainer {
     // When the first message was added.
     pub first_added_at: u64,
     // The transaction that all its messages share.
-    pub txn_id: MaybeTxnId,
+    pub txn_id: Option<TxnId>,
 }
 
 impl BatchContainer {
@@ -33,7 +33,7 @@ impl BatchContainer {
             lowest_sequence_id: SequenceId(0),
             highest_sequence_id: SequenceId(0),
             first_added_at: 0,
-            txn_id: MaybeTxnId::Absent,
+            txn_id: None,
         }
     }
 }

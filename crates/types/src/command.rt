@@ -1,11 +1,11 @@
 // What the broker sends back of a publish.
-use crate::types::{MaybeMessageIdData, ProducerHandle, SequenceId};
+use crate::types::{MessageIdData, ProducerHandle, SequenceId};
 
 #[derive(Clone, Copy)]
 pub struct CommandSendReceipt {
     pub producer_id: ProducerHandle,
     pub sequence_id: SequenceId,
-    pub message_id: MaybeMessageIdData,
+    pub message_id: Option<MessageIdData>,
 }
 
 // The error's text is left out.

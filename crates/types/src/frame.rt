@@ -1,6 +1,6 @@
 // Frames that wait to be taken.
 use crate::message::OutgoingMessage;
-use crate::txn::MaybeTxnId;
+use crate::txn::TxnId;
 use crate::types::SequenceId;
 
 // A producer's name: the first `len` of the bytes.
@@ -17,7 +17,7 @@ pub struct BatchFrame {
     // Sum of the payload lengths.
     pub current_size_bytes: usize,
     pub highest_sequence_id: SequenceId,
-    pub txn_id: MaybeTxnId,
+    pub txn_id: Option<TxnId>,
 }
 
 // How a message was cut, and which of its chunks waits next.

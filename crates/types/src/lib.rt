@@ -10,7 +10,6 @@ pub mod error;
 pub mod frame;
 pub mod memory_limit;
 pub mod message;
-pub mod optional;
 pub mod outbound;
 pub mod settings;
 pub mod signed;

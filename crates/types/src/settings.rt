@@ -1,6 +1,5 @@
 // What the owner of a producer sets.
 use crate::frame::ProducerName;
-use crate::optional::MaybeU64;
 
 #[derive(Clone, Copy)]
 pub struct Limits {
@@ -22,8 +21,8 @@ pub struct Switches {
 // In milliseconds.
 #[derive(Clone, Copy)]
 pub struct Delays {
-    pub send_timeout: MaybeU64,
-    pub batching_max_publish_delay: MaybeU64,
+    pub send_timeout: Option<u64>,
+    pub batching_max_publish_delay: Option<u64>,
 }
 
 #[derive(Clone, Copy)]
@@ -42,7 +41,7 @@ pub enum Setting {
     MaxMessagesInBatch(usize),
     BatchingEnabled(bool),
     ChunkingEnabled(bool),
-    SendTimeout(MaybeU64),
-    BatchingMaxPublishDelay(MaybeU64),
+    SendTimeout(Option<u64>),
+    BatchingMaxPublishDelay(Option<u64>),
     BrokerReady(bool),
 }

@@ -6,9 +6,3 @@ pub struct TxnId {
     // Most often the number within the coordinator.
     pub least_sig_bits: u64,
 }
-
-#[derive(Clone, Copy)]
-pub enum MaybeTxnId {
-    Absent,
-    Present(TxnId),
-}

@@ -2,8 +2,6 @@
 ghost use Rattle.std.specs.Prelude.{◌≡◌};
 ghost use Rattle.types.specs.Ids.{from_pb, of_receipt, or_minus_one};
 
-use crate::optional::MaybeI32;
-
 // A producer id, which the connection gives out.
 #[derive(Clone, Copy)]
 pub struct ProducerHandle(pub u64);
@@ -22,35 +20,23 @@ pub struct MessageId {
     pub batch_size: i32,
 }
 
-#[derive(Clone, Copy)]
-pub enum MaybeMessageId {
-    Absent,
-    Present(MessageId),
-}
-
 // A message id as the protocol has it.
 #[derive(Clone, Copy)]
 pub struct MessageIdData {
     pub ledger_id: u64,
     pub entry_id: u64,
-    pub partition: MaybeI32,
-    pub batch_index: MaybeI32,
-    pub batch_size: MaybeI32,
-}
-
-#[derive(Clone, Copy)]
-pub enum MaybeMessageIdData {
-    Absent,
-    Present(MessageIdData),
+    pub partition: Option<i32>,
+    pub batch_index: Option<i32>,
+    pub batch_size: Option<i32>,
 }
 
 // -1 for what the protocol leaves out.
-fn or_minus_one(v: MaybeI32) -> i32
+fn or_minus_one(v: Option<i32>) -> i32
     ensures { result ≡ or_minus_one v }
 {
     match v {
-        MaybeI32::Absent => -1,
-        MaybeI32::Present(n) => n,
+        None => -1,
+        Some(n) => n,
     }
 }
 
@@ -71,12 +57,12 @@ impl MessageId {
     }
 
     // The id that a receipt answers, also one that brings none.
-    pub fn of_receipt(id: MaybeMessageIdData) -> MessageId
+    pub fn of_receipt(id: Option<MessageIdData>) -> MessageId
         ensures { result ≡ of_receipt id }
     {
         match id {
-            MaybeMessageIdData::Present(pb) => MessageId::from_pb(pb),
-            MaybeMessageIdData::Absent => MessageId {
+            Some(pb) => MessageId::from_pb(pb),
+            None => MessageId {
                 ledger_id: 0,
                 entry_id: 0,
                 partition: -1,

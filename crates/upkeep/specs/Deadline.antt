@@ -1,17 +1,15 @@
 -- Deadlines that may be absent.
-use Rattle.std.specs.Prelude.{ℕ, Bool, false, leb, eqb}
+use Rattle.std.specs.Prelude.{ℕ, Bool, false, leb, eqb, None, Option, Some}
 use Rattle.laws.specs.Choice.{pick}
 use Rattle.types.specs.Time.{deadline_with_clamp}
-use Rattle.types.specs.declared.optional.MaybeU64.{MaybeU64}
-use Rattle.types.specs.declared.optional.MaybeU64.TheVariants.{Absent, Present}
 
-abbrev pub maybe_after : MaybeU64 → ℕ → MaybeU64
-maybe_after Absent time = Absent
-maybe_after (Present delay) time = Present (deadline_with_clamp time delay)
+abbrev pub maybe_after : Option ℕ → ℕ → Option ℕ
+maybe_after None time = None
+maybe_after (Some delay) time = Some (deadline_with_clamp time delay)
 
-abbrev pub has_elapsed : ℕ → MaybeU64 → Bool
-has_elapsed now Absent = false
-has_elapsed now (Present deadline) = leb deadline now
+abbrev pub has_elapsed : ℕ → Option ℕ → Bool
+has_elapsed now None = false
+has_elapsed now (Some deadline) = leb deadline now
 
-abbrev pub unless_none : ℕ → MaybeU64 → MaybeU64
-unless_none waiting deadline = pick (eqb waiting 0) Absent deadline
+abbrev pub unless_none : ℕ → Option ℕ → Option ℕ
+unless_none waiting deadline = pick (eqb waiting 0) None deadline

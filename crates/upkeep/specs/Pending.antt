@@ -1,10 +1,7 @@
 -- The ids and marks of the pending entries, and searches in them.
-use Rattle.std.specs.Prelude.{ℕ, Bool, true, false, not, ◌&&◌, ◌||◌, List, [], ◌∷◌, eqb}
-use Rattle.std.proofs.Math.Option.{Option, some, none}
+use Rattle.std.specs.Prelude.{ℕ, Bool, true, false, not, ◌&&◌, ◌||◌, List, [], ◌∷◌, eqb, None, Option, Some}
 use Rattle.laws.specs.Choice.{pick}
 use Rattle.laws.specs.Lists.{first_at}
-use Rattle.upkeep.specs.declared.pending.Found.{Found}
-use Rattle.upkeep.specs.declared.pending.Found.TheVariants.{At, Nothing}
 
 -- an id, and whether its entry keeps it in the index
 abbrev pub Key : Type 0
@@ -19,19 +16,15 @@ keys (i ∷ is) (m ∷ ms) = (i, not (eqb m 0)) ∷ keys is ms
 abbrev pub wanted : ℕ → Bool → Key → Bool
 wanted id any k = eqb k.0 id && (any || k.1)
 
-abbrev pub to_found : Option ℕ → Found
-to_found none = Nothing
-to_found (some i) = At i
+abbrev pub place_of : (Key → Bool) → List Key → Option ℕ
+place_of p l = first_at p 0 l
 
-abbrev pub place_of : (Key → Bool) → List Key → Found
-place_of p l = to_found (first_at p 0 l)
-
-abbrev pub first_if : Found → Found → Found
-first_if (At i) first = first
-first_if Nothing first = Nothing
+abbrev pub first_if : Option ℕ → Option ℕ → Option ℕ
+first_if (Some i) first = first
+first_if None first = None
 
 -- the first key that bears the id, if one that does is marked
-abbrev pub located : ℕ → List Key → Found
+abbrev pub located : ℕ → List Key → Option ℕ
 located id l = first_if (place_of (wanted id false) l) (place_of (wanted id true) l)
 
 abbrev pub cleared : ℕ → ℕ → ℕ → ℕ

@@ -1,13 +1,12 @@
 -- Counters and ids on plain values. These mirror the code: what a reader must believe is in crate `queue`.
-use Rattle.std.specs.Prelude.{ℕ, min, ltb, ℤ}
+use Rattle.std.specs.Prelude.{ℕ, min, ltb, ℤ, Err, Ok, Result}
 use Rattle.laws.specs.Choice.{pick}
 use Rattle.types.specs.Ids.{before_next}
-use Rattle.types.specs.declared.answer.Outcome.{Outcome}
-use Rattle.types.specs.declared.answer.Outcome.TheVariants.{Done, Refused}
 use Rattle.types.specs.declared.stats.Counters.{Counters}
 use Rattle.types.specs.declared.stats.ProducerStats.{ProducerStats}
 use Rattle.types.specs.declared.stats.SequenceIds.{SequenceIds}
 use Rattle.queue.specs.Ids.{published}
+use Rattle.types.specs.declared.error.ProducerError.{ProducerError}
 
 abbrev pub stats_of : Counters → ℕ → ProducerStats
 stats_of counters pending = record { counters = counters; pending_queue_size = min pending 256 }
@@ -27,6 +26,6 @@ abbrev pub initial_ids : ℕ → SequenceIds → SequenceIds
 initial_ids next i = pick (ltb 0 next) (both next (before_next next)) (only_next next i)
 
 -- a refused receipt leaves them
-abbrev pub published_if : Outcome → ℕ → SequenceIds → SequenceIds
-published_if Done id i = published id i
-published_if (Refused e) id i = i
+abbrev pub published_if : Result (Unit {0}) ProducerError → ℕ → SequenceIds → SequenceIds
+published_if (Ok tt) id i = published id i
+published_if (Err e) id i = i

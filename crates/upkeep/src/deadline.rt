@@ -2,36 +2,31 @@
 ghost use Rattle.std.specs.Prelude.{◌≡◌};
 ghost use Rattle.upkeep.specs.Deadline.{maybe_after, has_elapsed, unless_none};
 
-use types::optional::MaybeU64;
 use types::time::deadline_with_clamp;
 
 // A time plus a delay, none without a delay.
-pub fn after(delay: MaybeU64, time: u64) -> MaybeU64
+pub fn after(delay: Option<u64>, time: u64) -> Option<u64>
     ensures { result ≡ maybe_after delay time }
 {
     match delay {
-        MaybeU64::Absent => MaybeU64::Absent,
-        MaybeU64::Present(d) => MaybeU64::Present(deadline_with_clamp(time, d)),
+        None => None,
+        Some(d) => Some(deadline_with_clamp(time, d)),
     }
 }
 
 // Whether a deadline that is there has passed.
-pub fn elapsed(now: u64, deadline: MaybeU64) -> bool
+pub fn elapsed(now: u64, deadline: Option<u64>) -> bool
     ensures { result ≡ has_elapsed now deadline }
 {
     match deadline {
-        MaybeU64::Absent => false,
-        MaybeU64::Present(d) => d <= now,
+        None => false,
+        Some(d) => d <= now,
     }
 }
 
 // A deadline, none where nothing waits for it.
-pub fn unless_none(waiting: usize, deadline: MaybeU64) -> MaybeU64
+pub fn unless_none(waiting: usize, deadline: Option<u64>) -> Option<u64>
     ensures { result ≡ unless_none waiting deadline }
 {
-    if waiting == 0 {
-        MaybeU64::Absent
-    } else {
-        deadline
-    }
+    if waiting == 0 { None } else { deadline }
 }

@@ -6,13 +6,6 @@ ghost use Rattle.upkeep.specs.Pending.{keys, wanted, place_of, first_if, located
 
 use rules::numbers::at_most;
 
-#[derive(Clone, Copy)]
-pub enum Found {
-    // So many places from the front.
-    At(usize),
-    Nothing,
-}
-
 fn bears(entry: u64, mark: u8, id: u64, any: bool) -> bool
     ensures { result ≡ (eqb entry id && (any || not (eqb mark 0))) }
 {
@@ -31,7 +24,7 @@ fn find<'a>(
     len: usize,
     id: u64,
     any: bool,
-) -> Found
+) -> Option<usize>
     requires { (length ids.now ≡ 256) × (length marks.now ≡ 256) }
     ensures { result ≡ place_of (wanted id any) (ring 256 (keys ids.now marks.now) head len) }
 {
@@ -40,25 +33,25 @@ fn find<'a>(
     let mut i: usize = 0;
     let r = loop {
         if n <= i {
-            break Found::Nothing;
+            break None;
         }
         let at = (h + i) % 256;
         let entry = ids[at];
         let mark = marks[at];
         if bears(entry, mark, id, any) {
-            break Found::At(i);
+            break Some(i);
         }
         i += 1;
     };
     r
 }
 
-fn known(marked: Found, first: Found) -> Found
+fn known(marked: Option<usize>, first: Option<usize>) -> Option<usize>
     ensures { result ≡ first_if marked first }
 {
     match marked {
-        Found::At(_) => first,
-        Found::Nothing => Found::Nothing,
+        Some(_) => first,
+        None => None,
     }
 }
 
@@ -69,7 +62,7 @@ pub fn locate<'a>(
     head: usize,
     len: usize,
     id: u64,
-) -> Found
+) -> Option<usize>
     requires { (length ids.now ≡ 256) × (length marks.now ≡ 256) }
     ensures { result ≡ located id (ring 256 (keys ids.now marks.now) head len) }
 {

@@ -5,7 +5,6 @@ ghost use Rattle.queue.specs.Settings.{allowed, changed, closed, name_from};
 
 use rules::numbers::at_most;
 use types::frame::ProducerName;
-use types::optional::MaybeU64;
 use types::settings::{Delays, Limits, ProducerSettings, Setting, Switches};
 
 // Of a new producer.
@@ -29,8 +28,8 @@ pub fn new_settings() -> ProducerSettings
             closed: false,
         },
         delays: Delays {
-            send_timeout: MaybeU64::Absent,
-            batching_max_publish_delay: MaybeU64::Absent,
+            send_timeout: None,
+            batching_max_publish_delay: None,
         },
     }
 }

@@ -5,7 +5,7 @@ ghost use Rattle.upkeep.specs.Stats.{initial_ids, published_if, stats_of};
 
 use rules::numbers::at_most;
 use rules::rings::Rings;
-use types::answer::Outcome;
+use types::error::ProducerError;
 use types::signed::{saturating_sub_one, signed_of};
 use types::stats::{Counters, ProducerStats, SequenceIds};
 
@@ -52,15 +52,19 @@ pub fn initial_ids(mut ids: SequenceIds, next: u64) -> SequenceIds
 }
 
 // A receipt's id becomes the published number, unless the receipt was refused.
-pub fn published_ids(mut ids: SequenceIds, answer: Outcome, id: u64) -> SequenceIds
+pub fn published_ids(
+    mut ids: SequenceIds,
+    answer: Result<(), ProducerError>,
+    id: u64,
+) -> SequenceIds
     ensures { result ≡ published_if answer id ids }
 {
     match answer {
-        Outcome::Done => {
+        Ok(()) => {
             let published = signed_of(id);
             ids.last_sequence_id_published = published;
             ids
         }
-        Outcome::Refused(_) => ids,
+        Err(_) => ids,
     }
 }

@@ -1,18 +1,15 @@
 -- The items of a batch are read back: a bounded item's single metadata is short enough for four bytes to say its length.
+use Rattle.std.specs.Prelude.{None, Option, Some, unwrap_or}
 use Prim.Native.Nat.{ℕ, zero, suc, ◌+◌, ◌*◌, ◌/◌, ◌%◌, ◌^◌, ◌≤◌, ◌<◌}
 use mathlib.Core.Path.{◌≡◌, refl, sym}
 use mathlib.Core.List.{List, [], ◌∷◌, ◌++◌, append_assoc, map}
 use mathlib.Core.Bool.{Bool, true, false}
-use mathlib.Core.Option
-use mathlib.Core.Option.{Option, some, none}
 use native.Mathlib.Omega.{arith}
 use native.Mathlib.Nat.{not-suc-le-zero, le_of_suc-le-suc}
 use native.Mathlib.Numerals.{add-one}
 use lib.ListN.{length, drop, get_or, length-append, length-take, length-map, length-replicate}
 use lib.Seq.{drop-cons}
 use Rattle.types.specs.Values.{bytes_of}
-use Rattle.types.specs.declared.message.MaybePart.{MaybePart}
-use Rattle.types.specs.declared.message.MaybePart.TheVariants as part
 use Rattle.types.specs.declared.message.SingleMessage.{SingleMessage}
 use Rattle.wire.specs.Proto.{key, varint_field, bytes_field, bool_field, optional, be32}
 use Rattle.wire.specs.Single.{SingleMetadata, single}
@@ -21,6 +18,7 @@ use Rattle.wire.specs.Length.{zeros, blank_metadata, single_length, item_length}
 use Rattle.wire.specs.Read.{read_be32, read_item, read_items}
 use Rattle.wire.proofs.VarintLaws.{short, at_most_ten}
 use Rattle.wire.proofs.ReadLaws.{read_count_lem, read_single_lem}
+use Rattle.types.specs.declared.message.Part.{Part}
 
 -- ── four bytes ──
 
@@ -31,7 +29,7 @@ four n h =
     let c : n / 256 / 256 / 256 % 256 ≡ n / 256 / 256 / 256 = omega arith in
     rw (a, b, c) (omega arith)
 
-pub read_be32_lem : (n : ℕ) (rest : List ℕ) → n < 2 ^ 32 → read_be32 (be32 n ++ rest) ≡ some (n, rest)
+pub read_be32_lem : (n : ℕ) (rest : List ℕ) → n < 2 ^ 32 → read_be32 (be32 n ++ rest) ≡ Some (n, rest)
 unfolding read_be32 be32
 read_be32_lem n rest h = rw (four n h)
 
@@ -42,23 +40,23 @@ module _ (tag : ℕ) (t : tag < 16) where
   unfolding varint_field key
   number_short v h = simp length-append (omega (arith, short 0 (tag * 8 + 0) (omega arith), at_most_ten v h))
 
-  maybe_number_short : (x : Option ℕ) → Option.get_or x 0 < 2 ^ 64 → length (optional (varint_field tag) x) ≤ 11
-  maybe_number_short none h = omega arith
-  maybe_number_short (some v) h = number_short v h
+  maybe_number_short : (x : Option ℕ) → unwrap_or x 0 < 2 ^ 64 → length (optional (varint_field tag) x) ≤ 11
+  maybe_number_short None h = omega arith
+  maybe_number_short (Some v) h = number_short v h
 
   maybe_bool_short : (x : Option Bool) → length (optional (bool_field tag) x) ≤ 11
-  maybe_bool_short none = omega arith
-  maybe_bool_short (some true) = number_short 1 (omega arith)
-  maybe_bool_short (some false) = number_short 0 (omega arith)
+  maybe_bool_short None = omega arith
+  maybe_bool_short (Some true) = number_short 1 (omega arith)
+  maybe_bool_short (Some false) = number_short 0 (omega arith)
 
-  maybe_bytes_short : (x : Option (List ℕ)) → length (Option.get_or x []) ≤ 1024 → length (optional (bytes_field tag) x) ≤ 1035
+  maybe_bytes_short : (x : Option (List ℕ)) → length (unwrap_or x []) ≤ 1024 → length (optional (bytes_field tag) x) ≤ 1035
   unfolding bytes_field key
-  maybe_bytes_short none h = omega arith
-  maybe_bytes_short (some bs) h =
+  maybe_bytes_short None h = omega arith
+  maybe_bytes_short (Some bs) h =
       simp length-append (omega (arith, short 0 (tag * 8 + 2) (omega arith), at_most_ten (length bs) (omega arith)))
 
-pub single_short : (m : SingleMetadata) → length (Option.get_or m.partition_key []) ≤ 1024 → m.payload_size < 2 ^ 64
-    → Option.get_or m.event_time 0 < 2 ^ 64 → length (Option.get_or m.ordering_key []) ≤ 1024 → length (single m) ≤ 2114
+pub single_short : (m : SingleMetadata) → length (unwrap_or m.partition_key []) ≤ 1024 → m.payload_size < 2 ^ 64
+    → unwrap_or m.event_time 0 < 2 ^ 64 → length (unwrap_or m.ordering_key []) ≤ 1024 → length (single m) ≤ 2114
 unfolding single
 single_short m k s e o =
     simp length-append
@@ -74,7 +72,7 @@ single_short m k s e o =
 
 -- ── items ──
 
-pub read_item_lem : (i : Item) (rest : List ℕ) → Bounded i → read_item (item i ++ rest) ≡ some (i, rest)
+pub read_item_lem : (i : Item) (rest : List ℕ) → Bounded i → read_item (item i ++ rest) ≡ Some (i, rest)
 unfolding read_item item
 read_item_lem i rest b =
     let head = single (metadata i) in
@@ -91,7 +89,7 @@ read_item_lem i rest b =
     ))
 
 -- so many items, and nothing after them
-pub read_items_lem : (is : List Item) → All Bounded is → read_items (length is) (items is) ≡ some is
+pub read_items_lem : (is : List Item) → All Bounded is → read_items (length is) (items is) ≡ Some is
 unfolding read_items items
 read_items_lem [] b = refl
 read_items_lem (i ∷ is) b = rw (read_item_lem i (items is) b.0, read_items_lem is b.1)
@@ -103,9 +101,9 @@ items_append (i ∷ a) b = rw (items_append a b) (sym (append_assoc (item i) (it
 
 -- ── over a store ──
 
-part_short : (store : List ℕ) (x : MaybePart) → len_of x ≤ 1024 → length (Option.get_or (bytes_of store x) []) ≤ 1024
-part_short store part.Absent h = omega arith
-part_short store (part.Present p) h = rw length-take (omega arith)
+part_short : (store : List ℕ) (x : Option Part) → len_of x ≤ 1024 → length (unwrap_or (bytes_of store x) []) ≤ 1024
+part_short store None h = omega arith
+part_short store (Some p) h = rw length-take (omega arith)
 
 pub bounded : (store : List ℕ) (m : SingleMessage) → WithinBounds m → Bounded (item_of store m)
 bounded store m h =
@@ -123,7 +121,7 @@ all_bounded store (m ∷ ms) h = (bounded store m h.0, all_bounded store ms h.1)
 
 -- the parts need not lie in the store: what is written is what the store has of them
 pub read_batch : (store : List ℕ) (ms : List SingleMessage) → All WithinBounds ms
-    → read_items (length ms) (batch_payload store ms) ≡ some (map (item_of store) ms)
+    → read_items (length ms) (batch_payload store ms) ≡ Some (map (item_of store) ms)
 read_batch store ms h =
     rw (← length-map ms (item_of store)) (read_items_lem (map (item_of store) ms) (all_bounded store ms h))
 
@@ -141,9 +139,9 @@ batch_step store ms i d h = rw (drop-cons ms i d h, add-one)
 
 -- ── how long an item can be: the sums of a batch of 512 never stop ──
 
-zeros_short : (x : MaybePart) → len_of x ≤ 1024 → length (Option.get_or (zeros x) []) ≤ 1024
-zeros_short part.Absent h = omega arith
-zeros_short (part.Present p) h = rw length-replicate h
+zeros_short : (x : Option Part) → len_of x ≤ 1024 → length (unwrap_or (zeros x) []) ≤ 1024
+zeros_short None h = omega arith
+zeros_short (Some p) h = rw length-replicate h
 
 pub item_short : (m : SingleMessage) → WithinBounds m → item_length m ≤ 16779334
 unfolding item_length single_length

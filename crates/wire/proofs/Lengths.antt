@@ -1,4 +1,5 @@
 -- A message's bytes are as long as its fields say, for every store that its parts lie in: only the keys' lengths count.
+use Rattle.std.specs.Prelude.{None, Option, Some}
 use Prim.Native.Nat.{ℕ, ◌+◌, ◌≤◌}
 use mathlib.Core.Path.{◌≡◌, refl, sym, ◌∙◌}
 use mathlib.Core.List.{List, [], ◌∷◌, ◌++◌}
@@ -8,10 +9,8 @@ use lib.ListN.{length, drop, length-append, length-drop, length-replicate, repli
 use lib.Seq.{length-take-le}
 use borrow.Author.Tests.{leb-true}
 use Rattle.laws.specs.Numbers.{add_sat}
-use Rattle.types.specs.Values.{part_of, bytes_of, num_of, mark_of, part_in, maybe_in}
+use Rattle.types.specs.Values.{part_of, bytes_of, part_in, maybe_in}
 use Rattle.types.specs.declared.message.Part.{Part}
-use Rattle.types.specs.declared.message.MaybePart.{MaybePart}
-use Rattle.types.specs.declared.message.MaybePart.TheVariants as part
 use Rattle.types.specs.declared.message.SingleMessage.{SingleMessage}
 use Rattle.wire.specs.Proto.{varint_field, bytes_field, bool_field, optional, be32}
 use Rattle.wire.specs.Single.{single}
@@ -34,10 +33,10 @@ same_length : (tag : ℕ) (a b : List ℕ) → length a ≡ length b → length 
 unfolding bytes_field
 same_length tag a b e = simp length-append (rw e)
 
-maybe_length : (store : List ℕ) (tag : ℕ) (x : MaybePart) → maybe_in (length store) x ≡ true
+maybe_length : (store : List ℕ) (tag : ℕ) (x : Option Part) → maybe_in (length store) x ≡ true
     → length (optional (bytes_field tag) (bytes_of store x)) ≡ length (optional (bytes_field tag) (zeros x))
-maybe_length store tag part.Absent h = refl
-maybe_length store tag (part.Present p) h =
+maybe_length store tag None h = refl
+maybe_length store tag (Some p) h =
     same_length tag (part_of store p) (replicate p.len 0)
     (part_length store p h ∙ sym (length-replicate p.len 0))
 
@@ -82,10 +81,10 @@ abbrev pub written : List ℕ → SingleMessage → List ℕ
 written store m =
     optional (bytes_field 2) (bytes_of store m.partition_key)
     ++ varint_field 3 m.payload.len
-    ++ optional (varint_field 5) (num_of m.event_time)
+    ++ optional (varint_field 5) m.event_time
     ++ optional (bytes_field 7) (bytes_of store m.ordering_key)
-    ++ optional (bool_field 9) (mark_of m.null_value)
-    ++ optional (bool_field 10) (mark_of m.null_partition_key)
+    ++ optional (bool_field 9) m.null_value
+    ++ optional (bool_field 10) m.null_partition_key
 
 pub single_written : (store : List ℕ) (m : SingleMessage) → InStore (length store) m
     → single (metadata_of store m) ≡ written store m

@@ -1,10 +1,10 @@
 -- The other direction: bytes that have a reading are exactly those that are written of what was read, so the reader takes no other
 -- layout. Each reader that answers has passed all its tests, and these leave it the writer's bytes.
+use Rattle.std.specs.Prelude.{Option, Some, None}
 use Prim.Native.Nat.{ℕ, zero, suc, ◌+◌, ◌-◌, ◌*◌, ◌/◌, ◌%◌, ◌^◌, ◌≤◌, ◌<◌}
 use mathlib.Core.Path.{◌≡◌, refl, sym, ap, ◌∙◌}
 use mathlib.Core.List.{List, [], ◌∷◌, ◌++◌, append_assoc, append-nil}
 use mathlib.Core.Bool.{Bool, true, false}
-use mathlib.Core.Option.{Option, some, none}
 use native.Mathlib.Omega.{arith}
 use lib.ListN.{length, take, drop, take-append-drop}
 use lib.Seq.{length-take-le}
@@ -20,10 +20,10 @@ use Rattle.wire.proofs.ReadLaws.{read_last, read_more}
 
 -- ── how a reading came about ──
 
-pub not_read : {A : Type 0} {x : A} {P : Type 0} → none ≡ some x → P
+pub not_read : {A : Type 0} {x : A} {P : Type 0} → None ≡ Some x → P
 not_read e = let z : ◌≡◌ {A = ℕ} 0 1 = cc in absurd (omega arith)
 
-pub the_same : {A : Type 0} {x y : A} → some x ≡ some y → x ≡ y
+pub the_same : {A : Type 0} {x y : A} → Some x ≡ Some y → x ≡ y
 the_same e = cc
 
 pub parts : {A B : Type 0} {x y : A} {r s : B} → ◌≡◌ {A = A × B} (x, r) (y, s) → (x ≡ y) × (r ≡ s)
@@ -32,14 +32,14 @@ parts e = (ap (λ p. p.0) e, ap (λ p. p.1) e)
 record Came {A B : Type 0} (g : Got A) (f : A → List ℕ → Option B) (y : B) : Type 0 where
   pub value : A
   pub rest : List ℕ
-  pub first : g ≡ some (value, rest)
-  pub then : f value rest ≡ some y
+  pub first : g ≡ Some (value, rest)
+  pub then : f value rest ≡ Some y
 
-came : {A B : Type 0} (g : Got A) (f : A → List ℕ → Option B) (y : B) → and_then g f ≡ some y → Came g f y
-came none f y e = not_read e
-came (some p) f y e = record { value = p.0; rest = p.1; first = refl; then = e }
+came : {A B : Type 0} (g : Got A) (f : A → List ℕ → Option B) (y : B) → and_then g f ≡ Some y → Came g f y
+came None f y e = not_read e
+came (Some p) f y e = record { value = p.0; rest = p.1; first = refl; then = e }
 
-pub chosen : {A : Type 0} (t : Bool) (x y : A) → pick t (some x) none ≡ some y → (t ≡ true) × (x ≡ y)
+pub chosen : {A : Type 0} (t : Bool) (x y : A) → pick t (Some x) None ≡ Some y → (t ≡ true) × (x ≡ y)
 chosen true x y e = (refl, cc)
 chosen false x y e = not_read e
 
@@ -57,12 +57,12 @@ follows a r e h = all_right a r (rw e at h)
 
 -- ── values ──
 
-exact_low : (b v : ℕ) (r bs : List ℕ) (g : Got ℕ) → 128 ≤ b → b < 256 → with_low b g ≡ some (v, r)
-    → ((w : ℕ) (s : List ℕ) → g ≡ some (w, s) → bs ≡ varint w ++ s) → b ∷ bs ≡ varint v ++ r
-exact_low b v r bs none h l e again = not_read e
-exact_low b v r bs (some p) h l e again = go (eqb p.0 0) refl e
+exact_low : (b v : ℕ) (r bs : List ℕ) (g : Got ℕ) → 128 ≤ b → b < 256 → with_low b g ≡ Some (v, r)
+    → ((w : ℕ) (s : List ℕ) → g ≡ Some (w, s) → bs ≡ varint w ++ s) → b ∷ bs ≡ varint v ++ r
+exact_low b v r bs None h l e again = not_read e
+exact_low b v r bs (Some p) h l e again = go (eqb p.0 0) refl e
   where
-    go : (t : Bool) → eqb p.0 0 ≡ t → pick {A = Got ℕ} t none (some (b - 128 + p.0 * 128, p.1)) ≡ some (v, r)
+    go : (t : Bool) → eqb p.0 0 ≡ t → pick {A = Got ℕ} t None (Some (b - 128 + p.0 * 128, p.1)) ≡ Some (v, r)
         → b ∷ bs ≡ varint v ++ r
     go true z e = not_read e
     go false z e =
@@ -75,7 +75,7 @@ exact_low b v r bs (some p) h l e again = go (eqb p.0 0) refl e
         let high : v / 128 ≡ w = omega arith in
         rw (large v (omega arith), low, high, ← rest) (ap (λ l. b ∷ l) (again w p.1 refl))
 
-exact_varint : (bs : List ℕ) (v : ℕ) (r : List ℕ) → All Byte bs → read_varint bs ≡ some (v, r) → bs ≡ varint v ++ r
+exact_varint : (bs : List ℕ) (v : ℕ) (r : List ℕ) → All Byte bs → read_varint bs ≡ Some (v, r) → bs ≡ varint v ++ r
 unfolding read_varint
 exact_varint [] v r h e = not_read e
 exact_varint (b ∷ bs) v r h e =
@@ -86,17 +86,17 @@ exact_varint (b ∷ bs) v r h e =
 joined : (v w : ℕ) (r s : List ℕ) → v ≡ w → r ≡ s → varint v ++ r ≡ varint w ++ s
 joined v w r s e f = cc
 
-exact_below : (limit : ℕ) (bs : List ℕ) (v : ℕ) (r : List ℕ) → All Byte bs → read_below limit bs ≡ some (v, r)
+exact_below : (limit : ℕ) (bs : List ℕ) (v : ℕ) (r : List ℕ) → All Byte bs → read_below limit bs ≡ Some (v, r)
     → (bs ≡ varint v ++ r) × (v < limit)
 unfolding read_below
 exact_below limit bs v r h e =
-    let c = came (read_varint bs) (λ v r. pick (ltb v limit) (some (v, r)) none) (v, r) e in
+    let c = came (read_varint bs) (λ v r. pick (ltb v limit) (Some (v, r)) None) (v, r) e in
     let t = chosen (ltb c.value limit) (c.value, c.rest) (v, r) c.then in
     let q = parts t.1 in
     let below : c.value < limit = ltb-true c.value limit t.0 in
-    (exact_varint bs v r h (c.first ∙ ap some t.1), rw q.0 at below)
+    (exact_varint bs v r h (c.first ∙ ap Some t.1), rw q.0 at below)
 
-exact_count : (n : ℕ) (bs x r : List ℕ) → read_count n bs ≡ some (x, r) → (bs ≡ x ++ r) × (length x ≡ n)
+exact_count : (n : ℕ) (bs x r : List ℕ) → read_count n bs ≡ Some (x, r) → (bs ≡ x ++ r) × (length x ≡ n)
 unfolding read_count
 exact_count n bs x r e =
     let t = chosen (leb n (length bs)) (take n bs, drop n bs) (x, r) e in
@@ -105,7 +105,7 @@ exact_count n bs x r e =
       rw (← q.0) (length-take-le n bs (leb-true n (length bs) t.0)),
     )
 
-exact_bytes : (bs x r : List ℕ) → All Byte bs → read_bytes bs ≡ some (x, r) → bs ≡ varint (length x) ++ (x ++ r)
+exact_bytes : (bs x r : List ℕ) → All Byte bs → read_bytes bs ≡ Some (x, r) → bs ≡ varint (length x) ++ (x ++ r)
 unfolding read_bytes
 exact_bytes bs x r h e =
     let c = came (read_varint bs) read_count (x, r) e in
@@ -117,9 +117,9 @@ number_bool zero h = refl
 number_bool (suc zero) h = refl
 number_bool (suc (suc v)) h = absurd (omega arith)
 
-exact_bool : (bs : List ℕ) (b : Bool) (r : List ℕ) → All Byte bs → read_bool bs ≡ some (b, r) → bs ≡ varint (bool_number b) ++ r
+exact_bool : (bs : List ℕ) (b : Bool) (r : List ℕ) → All Byte bs → read_bool bs ≡ Some (b, r) → bs ≡ varint (bool_number b) ++ r
 exact_bool bs b r h e =
-    let c = came (read_below 2 bs) (λ v r. some (eqb v 1, r)) (b, r) e in
+    let c = came (read_below 2 bs) (λ v r. Some (eqb v 1, r)) (b, r) e in
     let q = parts (the_same c.then) in
     let v = exact_below 2 bs c.value c.rest h c.first in
     v.0
@@ -127,69 +127,69 @@ exact_bool bs b r h e =
 
 -- ── fields ──
 
-exact_key : (tag wire : ℕ) (bs r : List ℕ) → All Byte bs → after_key tag wire bs ≡ some r → bs ≡ key tag wire ++ r
+exact_key : (tag wire : ℕ) (bs r : List ℕ) → All Byte bs → after_key tag wire bs ≡ Some r → bs ≡ key tag wire ++ r
 unfolding after_key key
 exact_key tag wire bs r h e =
-    let c = came (read_varint bs) (λ k r. pick (eqb k (tag * 8 + wire)) (some r) none) r e in
+    let c = came (read_varint bs) (λ k r. pick (eqb k (tag * 8 + wire)) (Some r) None) r e in
     let t = chosen (eqb c.value (tag * 8 + wire)) c.rest r c.then in
     exact_varint bs c.value c.rest h c.first
     ∙ joined c.value (tag * 8 + wire) c.rest r (eqb-true c.value (tag * 8 + wire) t.0) t.1
 
 module _ {A : Type 0} (tag wire : ℕ) (value : List ℕ → Got A) (field : A → List ℕ)
-    (exact : (bs : List ℕ) (x : A) (r : List ℕ) → All Byte bs → value bs ≡ some (x, r) → key tag wire ++ bs ≡ field x ++ r)
+    (exact : (bs : List ℕ) (x : A) (r : List ℕ) → All Byte bs → value bs ≡ Some (x, r) → key tag wire ++ bs ≡ field x ++ r)
     (bs : List ℕ) (r : List ℕ) (h : All Byte bs) where
-  exact_present : (x : A) (s : List ℕ) → after_key tag wire bs ≡ some s → value s ≡ some (x, r) → bs ≡ field x ++ r
+  exact_present : (x : A) (s : List ℕ) → after_key tag wire bs ≡ Some s → value s ≡ Some (x, r) → bs ≡ field x ++ r
   exact_present x s k e =
       let q = exact_key tag wire bs s h k in
       q ∙ exact s x r (follows (key tag wire) s q h) e
 
-  exact_field : (x : A) → read_field tag wire value bs ≡ some (x, r) → bs ≡ field x ++ r
+  exact_field : (x : A) → read_field tag wire value bs ≡ Some (x, r) → bs ≡ field x ++ r
   exact_field x e = go (after_key tag wire bs) refl e
     where
-      go : (o : Option (List ℕ)) → after_key tag wire bs ≡ o → bind o value ≡ some (x, r) → bs ≡ field x ++ r
-      go none k e = not_read e
-      go (some s) k e = exact_present x s k e
+      go : (o : Option (List ℕ)) → after_key tag wire bs ≡ o → bind o value ≡ Some (x, r) → bs ≡ field x ++ r
+      go None k e = not_read e
+      go (Some s) k e = exact_present x s k e
 
-  exact_optional : (x : Option A) → read_optional tag wire value bs ≡ some (x, r) → bs ≡ optional field x ++ r
+  exact_optional : (x : Option A) → read_optional tag wire value bs ≡ Some (x, r) → bs ≡ optional field x ++ r
   exact_optional x e = go (after_key tag wire bs) refl e
     where
-      go : (o : Option (List ℕ)) → after_key tag wire bs ≡ o → present value bs o ≡ some (x, r) → bs ≡ optional field x ++ r
-      go none k e = let q = parts (the_same e) in rw (← q.0, ← q.1)
-      go (some s) k e =
-          let c = came (value s) (λ x rest. some (some x, rest)) (x, r) e in
+      go : (o : Option (List ℕ)) → after_key tag wire bs ≡ o → present value bs o ≡ Some (x, r) → bs ≡ optional field x ++ r
+      go None k e = let q = parts (the_same e) in rw (← q.0, ← q.1)
+      go (Some s) k e =
+          let c = came (value s) (λ x rest. Some (Some x, rest)) (x, r) e in
           let q = parts (the_same c.then) in
-          rw (← q.0) (exact_present c.value s k (c.first ∙ ap (λ t. some (c.value, t)) q.1))
+          rw (← q.0) (exact_present c.value s k (c.first ∙ ap (λ t. Some (c.value, t)) q.1))
 
-exact_number : (limit tag : ℕ) (bs : List ℕ) (v : ℕ) (r : List ℕ) → All Byte bs → read_below limit bs ≡ some (v, r)
+exact_number : (limit tag : ℕ) (bs : List ℕ) (v : ℕ) (r : List ℕ) → All Byte bs → read_below limit bs ≡ Some (v, r)
     → key tag 0 ++ bs ≡ varint_field tag v ++ r
 unfolding varint_field
 exact_number limit tag bs v r h e =
     ap (λ l. key tag 0 ++ l) (exact_below limit bs v r h e).0 ∙ sym (append_assoc (key tag 0) (varint v) r)
 
-exact_mark : (tag : ℕ) (bs : List ℕ) (b : Bool) (r : List ℕ) → All Byte bs → read_bool bs ≡ some (b, r)
+exact_mark : (tag : ℕ) (bs : List ℕ) (b : Bool) (r : List ℕ) → All Byte bs → read_bool bs ≡ Some (b, r)
     → key tag 0 ++ bs ≡ bool_field tag b ++ r
 unfolding varint_field
 exact_mark tag bs b r h e =
     ap (λ l. key tag 0 ++ l) (exact_bool bs b r h e) ∙ sym (append_assoc (key tag 0) (varint (bool_number b)) r)
 
-exact_part : (tag : ℕ) (bs x r : List ℕ) → All Byte bs → read_bytes bs ≡ some (x, r)
+exact_part : (tag : ℕ) (bs x r : List ℕ) → All Byte bs → read_bytes bs ≡ Some (x, r)
     → key tag 2 ++ bs ≡ bytes_field tag x ++ r
 unfolding bytes_field
 exact_part tag bs x r h e = ap (λ l. key tag 2 ++ l) (exact_bytes bs x r h e) ∙ simp append_assoc
 
 -- a field read, and what follows it
 module _ {A B P : Type 0} (tag wire : ℕ) (value : List ℕ → Got A) (field : A → List ℕ)
-    (exact : (bs : List ℕ) (x : A) (r : List ℕ) → All Byte bs → value bs ≡ some (x, r) → key tag wire ++ bs ≡ field x ++ r)
+    (exact : (bs : List ℕ) (x : A) (r : List ℕ) → All Byte bs → value bs ≡ Some (x, r) → key tag wire ++ bs ≡ field x ++ r)
     (bs : List ℕ) (h : All Byte bs) (y : B) where
-  then_field : (f : A → List ℕ → Option B) → and_then (read_field tag wire value bs) f ≡ some y
-      → ((x : A) (r : List ℕ) → bs ≡ field x ++ r → All Byte r → f x r ≡ some y → P) → P
+  then_field : (f : A → List ℕ → Option B) → and_then (read_field tag wire value bs) f ≡ Some y
+      → ((x : A) (r : List ℕ) → bs ≡ field x ++ r → All Byte r → f x r ≡ Some y → P) → P
   then_field f e on =
       let c = came (read_field tag wire value bs) f y e in
       let q = exact_field tag wire value field exact bs c.rest h c.value c.first in
       on c.value c.rest q (follows (field c.value) c.rest q h) c.then
 
-  then_optional : (f : Option A → List ℕ → Option B) → and_then (read_optional tag wire value bs) f ≡ some y
-      → ((x : Option A) (r : List ℕ) → bs ≡ optional field x ++ r → All Byte r → f x r ≡ some y → P) → P
+  then_optional : (f : Option A → List ℕ → Option B) → and_then (read_optional tag wire value bs) f ≡ Some y
+      → ((x : Option A) (r : List ℕ) → bs ≡ optional field x ++ r → All Byte r → f x r ≡ Some y → P) → P
   then_optional f e on =
       let c = came (read_optional tag wire value bs) f y e in
       let q = exact_optional tag wire value field exact bs c.rest h c.value c.first in
@@ -201,7 +201,7 @@ in_a_row : {bs r₁ r₂ r₃ r₄ r₅ : List ℕ} (a b c d e f r : List ℕ) �
     → r₄ ≡ e ++ r₅ → r₅ ≡ f ++ r → bs ≡ a ++ b ++ c ++ d ++ e ++ f ++ r
 in_a_row {bs} {r₁} {r₂} {r₃} {r₄} {r₅} a b c d e f r e₁ e₂ e₃ e₄ e₅ e₆ = rw (e₁, e₂, e₃, e₄, e₅, e₆) (simp append_assoc)
 
-exact_fields : (bs : List ℕ) (m : SingleMetadata) (r : List ℕ) → All Byte bs → read_fields bs ≡ some (m, r)
+exact_fields : (bs : List ℕ) (m : SingleMetadata) (r : List ℕ) → All Byte bs → read_fields bs ≡ Some (m, r)
     → bs ≡ single m ++ r
 unfolding read_fields single
 exact_fields bs m r h e =
@@ -215,21 +215,21 @@ exact_fields bs m r h e =
     (optional (bool_field 9) n) (optional (bool_field 10) p) r₆ e₁ e₂ e₃ e₄ e₅ e₆
     ∙ ap (λ q. single q.0 ++ q.1) (the_same t₆)))))))
 
-pub exact_single : (bs : List ℕ) (m : SingleMetadata) → All Byte bs → read_single bs ≡ some m → bs ≡ single m
+pub exact_single : (bs : List ℕ) (m : SingleMetadata) → All Byte bs → read_single bs ≡ Some m → bs ≡ single m
 unfolding read_single
 exact_single bs m h e = go (read_fields bs) refl e
   where
-    go : (g : Got SingleMetadata) → read_fields bs ≡ g → whole g ≡ some m → bs ≡ single m
-    go none k e = not_read e
-    go (some p) k e = last p.0 p.1 k e
+    go : (g : Got SingleMetadata) → read_fields bs ≡ g → whole g ≡ Some m → bs ≡ single m
+    go None k e = not_read e
+    go (Some p) k e = last p.0 p.1 k e
       where
-        last : (n : SingleMetadata) (r : List ℕ) → read_fields bs ≡ some (n, r) → whole (some (n, r)) ≡ some m → bs ≡ single m
+        last : (n : SingleMetadata) (r : List ℕ) → read_fields bs ≡ Some (n, r) → whole (Some (n, r)) ≡ Some m → bs ≡ single m
         last n [] k e = exact_fields bs n [] h k ∙ append-nil (single n) ∙ ap single (the_same e)
         last n (b ∷ r) k e = not_read e
 
 -- ── items ──
 
-exact_be32 : (bs : List ℕ) (n : ℕ) (r : List ℕ) → All Byte bs → read_be32 bs ≡ some (n, r) → bs ≡ be32 n ++ r
+exact_be32 : (bs : List ℕ) (n : ℕ) (r : List ℕ) → All Byte bs → read_be32 bs ≡ Some (n, r) → bs ≡ be32 n ++ r
 unfolding read_be32 be32
 exact_be32 [] n r h e = not_read e
 exact_be32 (a ∷ []) n r h e = not_read e
@@ -248,14 +248,14 @@ exact_be32 (a ∷ b ∷ c ∷ d ∷ s) n r h e =
     let d₁ : n % 256 ≡ d = omega arith in
     rw (a₁, b₁, c₁, d₁, q.1)
 
-pub then_read : {A B P : Type 0} (g : Got A) (f : A → List ℕ → Option B) (y : B) → and_then g f ≡ some y
-    → ((x : A) (r : List ℕ) → g ≡ some (x, r) → f x r ≡ some y → P) → P
+pub then_read : {A B P : Type 0} (g : Got A) (f : A → List ℕ → Option B) (y : B) → and_then g f ≡ Some y
+    → ((x : A) (r : List ℕ) → g ≡ Some (x, r) → f x r ≡ Some y → P) → P
 then_read g f y e on = let c = came g f y e in on c.value c.rest c.first c.then
 
-pub then_bind : {A B P : Type 0} (o : Option A) (f : A → Option B) (y : B) → bind o f ≡ some y
-    → ((x : A) → o ≡ some x → f x ≡ some y → P) → P
-then_bind none f y e on = not_read e
-then_bind (some x) f y e on = on x refl e
+pub then_bind : {A B P : Type 0} (o : Option A) (f : A → Option B) (y : B) → bind o f ≡ Some y
+    → ((x : A) → o ≡ Some x → f x ≡ Some y → P) → P
+then_bind None f y e on = not_read e
+then_bind (Some x) f y e on = on x refl e
 
 same_metadata : (m : SingleMetadata) (payload : List ℕ) → length payload ≡ m.payload_size
     → metadata (with_payload m payload) ≡ m
@@ -278,7 +278,7 @@ made bs r₁ head r₂ payload r n m e₁ e₂ l e₃ e₄ s =
     e₁ ∙ rw (e₂, ← l, e₃, e₄) (simp append_assoc)
     ∙ ap (λ d. be32 (length (single d)) ++ single d ++ payload ++ r) (sym (same_metadata m payload s))
 
-pub exact_item : (bs : List ℕ) (i : Item) (r : List ℕ) → All Byte bs → read_item bs ≡ some (i, r) → bs ≡ item i ++ r
+pub exact_item : (bs : List ℕ) (i : Item) (r : List ℕ) → All Byte bs → read_item bs ≡ Some (i, r) → bs ≡ item i ++ r
 unfolding read_item
 exact_item bs i r h e =
     then_read (read_be32 bs) _ (i, r) e (λ n r₁ g₁ t₁.
@@ -293,7 +293,7 @@ exact_item bs i r h e =
     ∙ ap (λ q. item q.0 ++ q.1) (the_same t₄)))))
 
 -- so many items, filling the payload
-pub exact_items : (n : ℕ) (bs : List ℕ) (is : List Item) → All Byte bs → read_items n bs ≡ some is
+pub exact_items : (n : ℕ) (bs : List ℕ) (is : List Item) → All Byte bs → read_items n bs ≡ Some is
     → (bs ≡ items is) × (length is ≡ n)
 unfolding read_items items
 exact_items zero [] is h e = (ap items (the_same e), ap length (sym (the_same e)))
@@ -303,9 +303,9 @@ exact_items (suc n) bs is h e =
     let q = exact_item bs i r h g in
     go i r q (read_items n r) t (λ js k. exact_items n r js (follows (item i) r q h) k))
   where
-    go : (i : Item) (r : List ℕ) → bs ≡ item i ++ r → (o : Option (List Item)) → cons? i o ≡ some is
-        → ((js : List Item) → o ≡ some js → (r ≡ items js) × (length js ≡ n)) → (bs ≡ items is) × (length is ≡ suc n)
-    go i r q none t again = not_read t
-    go i r q (some js) t again =
+    go : (i : Item) (r : List ℕ) → bs ≡ item i ++ r → (o : Option (List Item)) → cons? i o ≡ Some is
+        → ((js : List Item) → o ≡ Some js → (r ≡ items js) × (length js ≡ n)) → (bs ≡ items is) × (length is ≡ suc n)
+    go i r q None t again = not_read t
+    go i r q (Some js) t again =
         let a = again js refl in
         (q ∙ ap (λ l. item i ++ l) a.0 ∙ ap items (the_same t), sym (ap length (the_same t)) ∙ ap suc a.1)

@@ -1,10 +1,10 @@
 -- What was written is read back, and then whatever follows: each reader takes exactly the bytes of its writer, and an absent
 -- field is seen by the key of a later one, or by the end.
+use Rattle.std.specs.Prelude.{Option, Some, None, unwrap_or}
 use Prim.Native.Nat.{ℕ, zero, suc, ◌+◌, ◌-◌, ◌*◌, ◌/◌, ◌%◌, ◌^◌, ◌≤◌, ◌<◌}
 use mathlib.Core.Path.{◌≡◌, refl}
 use mathlib.Core.List.{List, [], ◌∷◌, ◌++◌, append_assoc, append-nil}
 use mathlib.Core.Bool.{Bool, true, false}
-use mathlib.Core.Option.{Option, some, none, get_or}
 use native.Mathlib.Omega.{arith}
 use lib.ListN.{length, length-append}
 use lib.Seq.{take-append_seam, drop-append_seam}
@@ -17,7 +17,7 @@ use Rattle.wire.proofs.VarintLaws.{split, small, large}
 -- ── values ──
 
 -- the last byte, and one before it
-pub read_last : (b : ℕ) (bs : List ℕ) → b < 128 → read_varint (b ∷ bs) ≡ some (b, bs)
+pub read_last : (b : ℕ) (bs : List ℕ) → b < 128 → read_varint (b ∷ bs) ≡ Some (b, bs)
 unfolding read_varint
 read_last b bs h = rw (lt-ltb b 128 h, read_varint)
 
@@ -25,10 +25,10 @@ pub read_more : (b : ℕ) (bs : List ℕ) → 128 ≤ b → read_varint (b ∷ b
 unfolding read_varint
 read_more b bs h = rw (le-ltb b 128 h, read_varint)
 
-read_varint_by : (n v : ℕ) (rest : List ℕ) → v ≤ n → read_varint (varint v ++ rest) ≡ some (v, rest)
+read_varint_by : (n v : ℕ) (rest : List ℕ) → v ≤ n → read_varint (varint v ++ rest) ≡ Some (v, rest)
 read_varint_by zero v rest h = rw (small v (omega arith)) (read_last v rest (omega arith))
 read_varint_by (suc n) v rest h =
-    let again : 128 ≤ v → read_varint (varint (v / 128) ++ rest) ≡ some (v / 128, rest) =
+    let again : 128 ≤ v → read_varint (varint (v / 128) ++ rest) ≡ Some (v / 128, rest) =
     λ b. read_varint_by n (v / 128) rest (omega arith) in
     let value : v % 128 + 128 - 128 + v / 128 * 128 ≡ v = omega arith in
     split v
@@ -37,14 +37,14 @@ read_varint_by (suc n) v rest h =
     rw (large v b, read_more (v % 128 + 128) (varint (v / 128) ++ rest) (omega arith), again b)
     (rw (ne_eqb (v / 128) 0 (λ e. omega arith), value)))
 
-pub read_varint_lem : (v : ℕ) (rest : List ℕ) → read_varint (varint v ++ rest) ≡ some (v, rest)
+pub read_varint_lem : (v : ℕ) (rest : List ℕ) → read_varint (varint v ++ rest) ≡ Some (v, rest)
 read_varint_lem v rest = read_varint_by v v rest (omega arith)
 
-pub read_below_lem : (limit v : ℕ) (rest : List ℕ) → v < limit → read_below limit (varint v ++ rest) ≡ some (v, rest)
+pub read_below_lem : (limit v : ℕ) (rest : List ℕ) → v < limit → read_below limit (varint v ++ rest) ≡ Some (v, rest)
 unfolding read_below
 read_below_lem limit v rest h = rw (read_varint_lem v rest, lt-ltb v limit h)
 
-pub read_count_lem : (bs rest : List ℕ) → read_count (length bs) (bs ++ rest) ≡ some (bs, rest)
+pub read_count_lem : (bs rest : List ℕ) → read_count (length bs) (bs ++ rest) ≡ Some (bs, rest)
 unfolding read_count
 read_count_lem bs rest =
     rw (
@@ -53,24 +53,24 @@ read_count_lem bs rest =
       drop-append_seam bs rest,
     )
 
-read_bytes_lem : (bs rest : List ℕ) → read_bytes (varint (length bs) ++ (bs ++ rest)) ≡ some (bs, rest)
+read_bytes_lem : (bs rest : List ℕ) → read_bytes (varint (length bs) ++ (bs ++ rest)) ≡ Some (bs, rest)
 unfolding read_bytes
 read_bytes_lem bs rest = rw (read_varint_lem (length bs) (bs ++ rest), read_count_lem bs rest)
 
-read_bool_lem : (b : Bool) (rest : List ℕ) → read_bool (varint (bool_number b) ++ rest) ≡ some (b, rest)
+read_bool_lem : (b : Bool) (rest : List ℕ) → read_bool (varint (bool_number b) ++ rest) ≡ Some (b, rest)
 read_bool_lem true rest = rw (read_below_lem 2 1 rest (omega arith))
 read_bool_lem false rest = rw (read_below_lem 2 0 rest (omega arith))
 
 -- ── fields ──
 
-after_key_lem : (tag wire : ℕ) (rest : List ℕ) → after_key tag wire (key tag wire ++ rest) ≡ some rest
+after_key_lem : (tag wire : ℕ) (rest : List ℕ) → after_key tag wire (key tag wire ++ rest) ≡ Some rest
 unfolding after_key key
 after_key_lem tag wire rest =
     rw (read_varint_lem (tag * 8 + wire) rest, eq-eqb (tag * 8 + wire) (tag * 8 + wire) refl)
 
 -- no key of a tag below t comes next
 Later : ℕ → List ℕ → Type 0
-Later t bs = (tag wire : ℕ) → tag < t → wire < 8 → after_key tag wire bs ≡ none
+Later t bs = (tag wire : ℕ) → tag < t → wire < 8 → after_key tag wire bs ≡ None
 
 later_end : (t : ℕ) → Later t []
 unfolding Later after_key read_varint
@@ -88,47 +88,47 @@ module _ (t tag : ℕ) (rest : List ℕ) (h : t ≤ tag) where
   later_number v = rw append_assoc (later_key t tag 0 (varint v ++ rest) h (omega arith))
 
   later_maybe_number : (x : Option ℕ) → Later t rest → Later t (optional (varint_field tag) x ++ rest)
-  later_maybe_number none l = l
-  later_maybe_number (some v) l = later_number v
+  later_maybe_number None l = l
+  later_maybe_number (Some v) l = later_number v
 
   later_maybe_bool : (x : Option Bool) → Later t rest → Later t (optional (bool_field tag) x ++ rest)
-  later_maybe_bool none l = l
-  later_maybe_bool (some b) l = later_number (bool_number b)
+  later_maybe_bool None l = l
+  later_maybe_bool (Some b) l = later_number (bool_number b)
 
   later_maybe_bytes : (x : Option (List ℕ)) → Later t rest → Later t (optional (bytes_field tag) x ++ rest)
   unfolding bytes_field
-  later_maybe_bytes none l = l
-  later_maybe_bytes (some bs) l =
+  later_maybe_bytes None l = l
+  later_maybe_bytes (Some bs) l =
       simp append_assoc (later_key t tag 2 (varint (length bs) ++ (bs ++ rest)) h (omega arith))
 
 module _ (tag : ℕ) (rest : List ℕ) where
   absent : {A : Type 0} (wire : ℕ) (value : List ℕ → Got A) → wire < 8 → Later (suc tag) rest
-      → read_optional tag wire value rest ≡ some (none, rest)
+      → read_optional tag wire value rest ≡ Some (None, rest)
   unfolding Later
   absent wire value w l = rw (l tag wire (omega arith) w)
 
   read_maybe_bytes : (x : Option (List ℕ)) → Later (suc tag) rest
-      → read_optional tag 2 read_bytes (optional (bytes_field tag) x ++ rest) ≡ some (x, rest)
+      → read_optional tag 2 read_bytes (optional (bytes_field tag) x ++ rest) ≡ Some (x, rest)
   unfolding bytes_field
-  read_maybe_bytes none l = absent 2 read_bytes (omega arith) l
-  read_maybe_bytes (some bs) l =
+  read_maybe_bytes None l = absent 2 read_bytes (omega arith) l
+  read_maybe_bytes (Some bs) l =
       simp append_assoc (rw (after_key_lem tag 2 (varint (length bs) ++ (bs ++ rest)), read_bytes_lem bs rest))
 
-  read_maybe_number : (limit : ℕ) (x : Option ℕ) → get_or x 0 < limit → Later (suc tag) rest
-      → read_optional tag 0 (read_below limit) (optional (varint_field tag) x ++ rest) ≡ some (x, rest)
+  read_maybe_number : (limit : ℕ) (x : Option ℕ) → unwrap_or x 0 < limit → Later (suc tag) rest
+      → read_optional tag 0 (read_below limit) (optional (varint_field tag) x ++ rest) ≡ Some (x, rest)
   unfolding varint_field
-  read_maybe_number limit none h l = absent 0 (read_below limit) (omega arith) l
-  read_maybe_number limit (some v) h l =
+  read_maybe_number limit None h l = absent 0 (read_below limit) (omega arith) l
+  read_maybe_number limit (Some v) h l =
       rw (append_assoc, after_key_lem tag 0 (varint v ++ rest), read_below_lem limit v rest h)
 
   read_maybe_bool : (x : Option Bool) → Later (suc tag) rest
-      → read_optional tag 0 read_bool (optional (bool_field tag) x ++ rest) ≡ some (x, rest)
+      → read_optional tag 0 read_bool (optional (bool_field tag) x ++ rest) ≡ Some (x, rest)
   unfolding varint_field
-  read_maybe_bool none l = absent 0 read_bool (omega arith) l
-  read_maybe_bool (some b) l =
+  read_maybe_bool None l = absent 0 read_bool (omega arith) l
+  read_maybe_bool (Some b) l =
       rw (append_assoc, after_key_lem tag 0 (varint (bool_number b) ++ rest), read_bool_lem b rest)
 
-  read_number : (limit v : ℕ) → v < limit → read_field tag 0 (read_below limit) (varint_field tag v ++ rest) ≡ some (v, rest)
+  read_number : (limit v : ℕ) → v < limit → read_field tag 0 (read_below limit) (varint_field tag v ++ rest) ≡ Some (v, rest)
   unfolding varint_field
   read_number limit v h = rw (append_assoc, after_key_lem tag 0 (varint v ++ rest), read_below_lem limit v rest h)
 
@@ -170,27 +170,27 @@ module _ (m : SingleMetadata) where
   unfolding f3
   later3 = later_number 3 3 f5 (omega arith) m.payload_size
 
-  step3 : m.payload_size < 2 ^ 31 → read_field 3 0 read_size f3 ≡ some (m.payload_size, f5)
+  step3 : m.payload_size < 2 ^ 31 → read_field 3 0 read_size f3 ≡ Some (m.payload_size, f5)
   unfolding f3
   step3 h = read_number 3 f5 (2 ^ 31) m.payload_size h
 
-  step5 : get_or m.event_time 0 < 2 ^ 64 → read_optional 5 0 read_uint64 f5 ≡ some (m.event_time, f7)
+  step5 : unwrap_or m.event_time 0 < 2 ^ 64 → read_optional 5 0 read_uint64 f5 ≡ Some (m.event_time, f7)
   unfolding f5
   step5 h = read_maybe_number 5 f7 (2 ^ 64) m.event_time h (later7 6 (omega arith))
 
-  step7 : read_optional 7 2 read_bytes f7 ≡ some (m.ordering_key, f9)
+  step7 : read_optional 7 2 read_bytes f7 ≡ Some (m.ordering_key, f9)
   unfolding f7
   step7 = read_maybe_bytes 7 f9 m.ordering_key (later9 8 (omega arith))
 
-  step9 : read_optional 9 0 read_bool f9 ≡ some (m.null_value, f10)
+  step9 : read_optional 9 0 read_bool f9 ≡ Some (m.null_value, f10)
   unfolding f9
   step9 = read_maybe_bool 9 f10 m.null_value (later10 10 (omega arith))
 
-  step10 : read_optional 10 0 read_bool f10 ≡ some (m.null_partition_key, [])
+  step10 : read_optional 10 0 read_bool f10 ≡ Some (m.null_partition_key, [])
   unfolding f10
   step10 = read_maybe_bool 10 [] m.null_partition_key (later_end 11)
 
-  pub read_single_lem : m.payload_size < 2 ^ 31 → get_or m.event_time 0 < 2 ^ 64 → read_single (single m) ≡ some m
+  pub read_single_lem : m.payload_size < 2 ^ 31 → unwrap_or m.event_time 0 < 2 ^ 64 → read_single (single m) ≡ Some m
   unfolding read_single read_fields
   read_single_lem s e =
       rw (from, read_maybe_bytes 2 f3 m.partition_key later3, step3 s, step5 e, step7, step9, step10)

@@ -1,9 +1,9 @@
 -- A uuid's text is 36 characters and is read back: byte by byte, with the dash that stands before it.
+use Rattle.std.specs.Prelude.{Option, Some, None}
 use Prim.Native.Nat.{ℕ, zero, suc, ◌+◌, ◌-◌, ◌*◌, ◌/◌, ◌%◌, ◌≤◌, ◌<◌}
 use mathlib.Core.Path.{◌≡◌, refl, sym, ap, ◌∙◌}
 use mathlib.Core.List.{List, [], ◌∷◌, ◌++◌, append_assoc}
 use mathlib.Core.Bool.{Bool, true, false, ◌&&◌}
-use mathlib.Core.Option.{Option, some, none}
 use native.Mathlib.Omega.{arith}
 use native.Mathlib.Numerals.{add-one}
 use lib.ListN.{length, drop, get_or, length-append}
@@ -54,13 +54,13 @@ by_bytes uuid h =
 
 -- ── the reverse reading ──
 
-read_digit_lem : (n : ℕ) → n < 16 → read_digit (hex_digit n) ≡ some n
+read_digit_lem : (n : ℕ) → n < 16 → read_digit (hex_digit n) ≡ Some n
 read_digit_lem n h = go (ltb n 10) refl
   where
-    go : (t : Bool) → ltb n 10 ≡ t → read_digit (pick t (48 + n) (87 + n)) ≡ some n
+    go : (t : Bool) → ltb n 10 ≡ t → read_digit (pick t (48 + n) (87 + n)) ≡ Some n
     go true e =
         let l : n < 10 = ltb-true n 10 e in
-        rw (le-leb 48 (48 + n) (omega arith), le-leb (48 + n) 57 (omega arith)) (ap some (omega arith))
+        rw (le-leb 48 (48 + n) (omega arith), le-leb (48 + n) 57 (omega arith)) (ap Some (omega arith))
     go false e =
         let l : 10 ≤ n = ltb-false n 10 e in
         rw (
@@ -69,28 +69,28 @@ read_digit_lem n h = go (ltb n 10) refl
           le-leb 97 (87 + n) (omega arith),
           le-leb (87 + n) 102 (omega arith),
         )
-        (ap some (omega arith))
+        (ap Some (omega arith))
 
-read_hex_lem : (b : ℕ) (rest : List ℕ) → b < 256 → read_hex (hex_byte b ++ rest) ≡ some (b, rest)
+read_hex_lem : (b : ℕ) (rest : List ℕ) → b < 256 → read_hex (hex_byte b ++ rest) ≡ Some (b, rest)
 read_hex_lem b rest h =
     let e : b / 16 * 16 + b % 16 ≡ b = omega arith in
     rw (read_digit_lem (b / 16) (omega arith), read_digit_lem (b % 16) (omega arith), e)
 
-read_dash_lem : (i : ℕ) (rest : List ℕ) → read_dash i (dash i ++ rest) ≡ some rest
+read_dash_lem : (i : ℕ) (rest : List ℕ) → read_dash i (dash i ++ rest) ≡ Some rest
 read_dash_lem i rest = go (dashed i)
   where
-    go : (t : Bool) → pick t (take_dash (pick t (45 ∷ []) [] ++ rest)) (some (pick t (45 ∷ []) [] ++ rest)) ≡ some rest
+    go : (t : Bool) → pick t (take_dash (pick t (45 ∷ []) [] ++ rest)) (Some (pick t (45 ∷ []) [] ++ rest)) ≡ Some rest
     go true = refl
     go false = refl
 
-read_text_lem : (bs : List ℕ) (i : ℕ) → All Byte bs → read_text (length bs) i (text_from i bs) ≡ some bs
+read_text_lem : (bs : List ℕ) (i : ℕ) → All Byte bs → read_text (length bs) i (text_from i bs) ≡ Some bs
 unfolding read_text text_from
 read_text_lem [] i a = refl
 read_text_lem (b ∷ bs) i a =
     let rest = text_from (suc i) bs in
     rw (append_assoc (dash i) (hex_byte b) rest, read_dash_lem i (hex_byte b ++ rest), read_hex_lem b rest a.0, read_text_lem bs (suc i) a.1)
 
-pub read_uuid_lem : (uuid : List ℕ) → length uuid ≡ 16 → All Byte uuid → read_uuid (uuid_text uuid) ≡ some uuid
+pub read_uuid_lem : (uuid : List ℕ) → length uuid ≡ 16 → All Byte uuid → read_uuid (uuid_text uuid) ≡ Some uuid
 unfolding read_uuid
 read_uuid_lem uuid h a = rw (by_bytes uuid h, ← h) (read_text_lem uuid 0 a)
 
@@ -100,11 +100,11 @@ and_both : (a b : Bool) → (a && b) ≡ true → (a ≡ true) × (b ≡ true)
 and_both true b h = (refl, h)
 and_both false b h = let z : ◌≡◌ {A = ℕ} 0 1 = cc in absurd (omega arith)
 
-exact_digit : (c n : ℕ) → read_digit c ≡ some n → (hex_digit n ≡ c) × (n < 16)
+exact_digit : (c n : ℕ) → read_digit c ≡ Some n → (hex_digit n ≡ c) × (n < 16)
 exact_digit c n e = go (leb 48 c && leb c 57) refl e
   where
     go : (t : Bool) → (leb 48 c && leb c 57) ≡ t
-        → pick t (some (c - 48)) (pick (leb 97 c && leb c 102) (some (c - 87)) none) ≡ some n
+        → pick t (Some (c - 48)) (pick (leb 97 c && leb c 102) (Some (c - 87)) None) ≡ Some n
         → (hex_digit n ≡ c) × (n < 16)
     go true t e =
         let q : c - 48 ≡ n = the_same e in
@@ -120,16 +120,16 @@ exact_digit c n e = go (leb 48 c && leb c 57) refl e
         let high : c ≤ 102 = leb-true c 102 b.1 in
         (rw (le-ltb n 10 (omega arith)) (omega arith), omega arith)
 
-exact_hex : (cs : List ℕ) (b : ℕ) (r : List ℕ) → read_hex cs ≡ some (b, r) → cs ≡ hex_byte b ++ r
+exact_hex : (cs : List ℕ) (b : ℕ) (r : List ℕ) → read_hex cs ≡ Some (b, r) → cs ≡ hex_byte b ++ r
 exact_hex [] b r e = not_read e
 exact_hex (c ∷ []) b r e = not_read e
 exact_hex (c ∷ d ∷ rest) b r e = go (read_digit c) (read_digit d) refl refl e
   where
-    go : (x y : Option ℕ) → read_digit c ≡ x → read_digit d ≡ y → two_digits x y rest ≡ some (b, r)
+    go : (x y : Option ℕ) → read_digit c ≡ x → read_digit d ≡ y → two_digits x y rest ≡ Some (b, r)
         → c ∷ d ∷ rest ≡ hex_byte b ++ r
-    go none y f g e = not_read e
-    go (some h) none f g e = not_read e
-    go (some h) (some l) f g e =
+    go None y f g e = not_read e
+    go (Some h) None f g e = not_read e
+    go (Some h) (Some l) f g e =
         let q = parts (the_same e) in
         let value : h * 16 + l ≡ b = q.0 in
         let u = exact_digit c h f in
@@ -139,17 +139,17 @@ exact_hex (c ∷ d ∷ rest) b r e = go (read_digit c) (read_digit d) refl refl 
         let low : b % 16 ≡ l = omega arith in
         rw (high, low, u.0, v.0, q.1)
 
-exact_dash : (i : ℕ) (cs r : List ℕ) → read_dash i cs ≡ some r → cs ≡ dash i ++ r
+exact_dash : (i : ℕ) (cs r : List ℕ) → read_dash i cs ≡ Some r → cs ≡ dash i ++ r
 exact_dash i cs r e = go (dashed i) cs e
   where
-    go : (t : Bool) (cs : List ℕ) → pick t (take_dash cs) (some cs) ≡ some r → cs ≡ pick t (45 ∷ []) [] ++ r
+    go : (t : Bool) (cs : List ℕ) → pick t (take_dash cs) (Some cs) ≡ Some r → cs ≡ pick t (45 ∷ []) [] ++ r
     go true [] e = not_read e
     go true (c ∷ cs) e =
         let q = chosen (eqb c 45) cs r e in
         rw (eqb-true c 45 q.0, q.1)
     go false cs e = the_same e
 
-exact_text : (n i : ℕ) (cs bs : List ℕ) → read_text n i cs ≡ some bs → (cs ≡ text_from i bs) × (length bs ≡ n)
+exact_text : (n i : ℕ) (cs bs : List ℕ) → read_text n i cs ≡ Some bs → (cs ≡ text_from i bs) × (length bs ≡ n)
 unfolding read_text text_from
 exact_text zero i [] bs e = (ap (text_from i) (the_same e), ap length (sym (the_same e)))
 exact_text zero i (c ∷ cs) bs e = not_read e
@@ -159,17 +159,17 @@ exact_text (suc n) i cs bs e =
     let q = exact_dash i cs r g ∙ ap (λ l. dash i ++ l) (exact_hex r b rest h) in
     go b rest q (read_text n (suc i) rest) u (λ ts k. exact_text n (suc i) rest ts k)))
   where
-    go : (b : ℕ) (rest : List ℕ) → cs ≡ dash i ++ (hex_byte b ++ rest) → (o : Option (List ℕ)) → cons? b o ≡ some bs
-        → ((ts : List ℕ) → o ≡ some ts → (rest ≡ text_from (suc i) ts) × (length ts ≡ n))
+    go : (b : ℕ) (rest : List ℕ) → cs ≡ dash i ++ (hex_byte b ++ rest) → (o : Option (List ℕ)) → cons? b o ≡ Some bs
+        → ((ts : List ℕ) → o ≡ Some ts → (rest ≡ text_from (suc i) ts) × (length ts ≡ n))
         → (cs ≡ text_from i bs) × (length bs ≡ suc n)
-    go b rest q none t again = not_read t
-    go b rest q (some ts) t again =
+    go b rest q None t again = not_read t
+    go b rest q (Some ts) t again =
         let a = again ts refl in
         let text : cs ≡ dash i ++ hex_byte b ++ text_from (suc i) ts =
         (rw a.0 at q) ∙ sym (append_assoc (dash i) (hex_byte b) (text_from (suc i) ts)) in
         (text ∙ ap (text_from i) (the_same t), sym (ap length (the_same t)) ∙ ap suc a.1)
 
-pub exact_uuid : (text uuid : List ℕ) → read_uuid text ≡ some uuid → (text ≡ uuid_text uuid) × (length uuid ≡ 16)
+pub exact_uuid : (text uuid : List ℕ) → read_uuid text ≡ Some uuid → (text ≡ uuid_text uuid) × (length uuid ≡ 16)
 unfolding read_uuid
 exact_uuid text uuid e =
     let q = exact_text 16 0 text uuid e in

@@ -1,8 +1,8 @@
 -- Published vectors of the Protocol Buffers encoding, and layouts that have no reading, all computed.
+use Rattle.std.specs.Prelude.{None}
 use Prim.Native.Nat.{ℕ}
 use mathlib.Core.Path.{◌≡◌, refl}
 use mathlib.Core.List.{List, [], ◌∷◌, map}
-use mathlib.Core.Option.{none}
 use lib.IntN.{negsuc}
 use Rattle.wire.specs.Proto.{varint_by, varint, key, varint_field, bytes_field, int32_field}
 use Rattle.wire.specs.Read.{read_varint, read_below, read_count, read_bytes, after_key, read_fields, read_single}
@@ -39,6 +39,6 @@ refused =
     ∷ (0x18 ∷ 0xff ∷ 0xff ∷ 0xff ∷ 0xff ∷ 0xff ∷ 0xff ∷ 0xff ∷ 0xff ∷ 0xff ∷ 0x01 ∷ [])
     ∷ []
 
-pub refused_right : map read_single refused ≡ map (λ _. none) refused
+pub refused_right : map read_single refused ≡ map (λ _. None) refused
 unfolding read_varint read_below read_count read_bytes after_key read_fields read_single
 refused_right = refl

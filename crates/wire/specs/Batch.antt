@@ -1,12 +1,10 @@
 -- The payload of a batch frame (document 01, 'producer.rs: batch').
-use Rattle.std.specs.Prelude.{ℕ, ◌≤◌, ◌<◌, ◌^◌, ◌≡◌, List, [], ◌∷◌, ◌++◌, map, Bool, true, length}
-use Rattle.std.proofs.Math.Option.{Option, get_or}
-use Rattle.types.specs.Values.{part_of, bytes_of, num_of, mark_of, part_in, maybe_in}
-use Rattle.types.specs.declared.message.MaybePart.{MaybePart}
-use Rattle.types.specs.declared.message.MaybePart.TheVariants as part
+use Rattle.std.specs.Prelude.{ℕ, ◌≤◌, ◌<◌, ◌^◌, ◌≡◌, List, [], ◌∷◌, ◌++◌, map, Bool, true, length, None, Option, Some, unwrap_or}
+use Rattle.types.specs.Values.{part_of, bytes_of, part_in, maybe_in}
 use Rattle.types.specs.declared.message.SingleMessage.{SingleMessage}
 use Rattle.wire.specs.Proto.{be32}
 use Rattle.wire.specs.Single.{SingleMetadata, single}
+use Rattle.types.specs.declared.message.Part.{Part}
 
 -- one message of a batch, as values
 pub record Item : Type 0 where
@@ -45,9 +43,9 @@ item_of store m =
       payload = part_of store m.payload;
       partition_key = bytes_of store m.partition_key;
       ordering_key = bytes_of store m.ordering_key;
-      event_time = num_of m.event_time;
-      null_value = mark_of m.null_value;
-      null_partition_key = mark_of m.null_partition_key;
+      event_time = m.event_time;
+      null_value = m.null_value;
+      null_partition_key = m.null_partition_key;
     }
 
 abbrev pub metadata_of : List ℕ → SingleMessage → SingleMetadata
@@ -65,23 +63,23 @@ All P [] = Unit {0}
 All P (x ∷ xs) = P x × All P xs
 
 -- an absent part has no length
-abbrev pub len_of : MaybePart → ℕ
-len_of part.Absent = 0
-len_of (part.Present p) = p.len
+abbrev pub len_of : Option Part → ℕ
+len_of None = 0
+len_of (Some p) = p.len
 
 -- an item within the bounds of refusal 3, with an event time of 64 bits; what is absent is in bounds
 pub record Bounded (i : Item) : Type 0 where
   pub payload : length i.payload ≤ 16777216
-  pub partition_key : length (get_or i.partition_key []) ≤ 1024
-  pub ordering_key : length (get_or i.ordering_key []) ≤ 1024
-  pub event_time : get_or i.event_time 0 < 2 ^ 64
+  pub partition_key : length (unwrap_or i.partition_key []) ≤ 1024
+  pub ordering_key : length (unwrap_or i.ordering_key []) ≤ 1024
+  pub event_time : unwrap_or i.event_time 0 < 2 ^ 64
 
 -- the same of a message whose bytes are in a store
 pub record WithinBounds (m : SingleMessage) : Type 0 where
   pub payload : m.payload.len ≤ 16777216
   pub partition_key : len_of m.partition_key ≤ 1024
   pub ordering_key : len_of m.ordering_key ≤ 1024
-  pub event_time : get_or (num_of m.event_time) 0 < 2 ^ 64
+  pub event_time : unwrap_or m.event_time 0 < 2 ^ 64
 
 -- its parts lie in a store of n bytes (refusal 2)
 pub record InStore (n : ℕ) (m : SingleMessage) : Type 0 where

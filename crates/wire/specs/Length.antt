@@ -1,26 +1,23 @@
 -- How long a message's bytes are, known without its store: a part's length is in the part.
-use Rattle.std.specs.Prelude.{ℕ, ◌+◌, ◌-◌, ◌^◌, min, List, [], ◌∷◌, length, replicate}
-use Rattle.std.proofs.Math.Option.{Option, some, none}
-use Rattle.types.specs.Values.{num_of, mark_of}
-use Rattle.types.specs.declared.message.MaybePart.{MaybePart}
-use Rattle.types.specs.declared.message.MaybePart.TheVariants as part
+use Rattle.std.specs.Prelude.{ℕ, ◌+◌, ◌-◌, ◌^◌, min, List, [], ◌∷◌, length, replicate, None, Option, Some}
 use Rattle.types.specs.declared.message.SingleMessage.{SingleMessage}
 use Rattle.wire.specs.Single.{SingleMetadata, single}
+use Rattle.types.specs.declared.message.Part.{Part}
 
 -- as many zeros as a part has bytes
-abbrev pub zeros : MaybePart → Option (List ℕ)
-zeros part.Absent = none
-zeros (part.Present p) = some (replicate p.len 0)
+abbrev pub zeros : Option Part → Option (List ℕ)
+zeros None = None
+zeros (Some p) = Some (replicate p.len 0)
 
 abbrev pub blank_metadata : SingleMessage → SingleMetadata
 blank_metadata m =
     record {
       partition_key = zeros m.partition_key;
       payload_size = m.payload.len;
-      event_time = num_of m.event_time;
+      event_time = m.event_time;
       ordering_key = zeros m.ordering_key;
-      null_value = mark_of m.null_value;
-      null_partition_key = mark_of m.null_partition_key;
+      null_value = m.null_value;
+      null_partition_key = m.null_partition_key;
     }
 
 -- a sum of bytes stops at 2^64 - 1 (document 01, 'producer.rs: receipts, errors, snapshot, replay')

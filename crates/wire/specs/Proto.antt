@@ -1,6 +1,5 @@
 -- The Protocol Buffers encoding, as far as a single metadata uses it; and 4 bytes big-endian, as the Pulsar binary protocol has them.
-use Rattle.std.specs.Prelude.{ℕ, zero, suc, ◌+◌, ◌-◌, ◌*◌, ◌/◌, ◌%◌, ◌^◌, ◌<◌, List, [], ◌∷◌, ◌++◌, Bool, true, false, length, ltb, ℤ, pos, negsuc}
-use Rattle.std.proofs.Math.Option.{Option, some, none}
+use Rattle.std.specs.Prelude.{ℕ, zero, suc, ◌+◌, ◌-◌, ◌*◌, ◌/◌, ◌%◌, ◌^◌, ◌<◌, List, [], ◌∷◌, ◌++◌, Bool, true, false, length, ltb, ℤ, pos, negsuc, None, Option, Some}
 
 -- a byte
 abbrev pub Byte : ℕ → Type 0
@@ -46,8 +45,8 @@ bool_field tag b = varint_field tag (bool_number b)
 
 -- an absent field is left out
 abbrev pub optional : {A : Type 0} → (A → List ℕ) → Option A → List ℕ
-optional field none = []
-optional field (some x) = field x
+optional field None = []
+optional field (Some x) = field x
 
 -- the four bytes of a number, the highest first
 unfoldable pub be32 : ℕ → List ℕ

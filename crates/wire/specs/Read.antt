@@ -1,7 +1,6 @@
 -- The reader of a batch frame's payload. It takes exactly the layout that is written: another order of fields, a field that is
 -- not named, a repeated one or a varint longer than needed has no reading. The laws are in proofs/ReadLaws.antt and ReadExact.antt.
-use Rattle.std.specs.Prelude.{ℕ, zero, suc, ◌+◌, ◌-◌, ◌*◌, ◌^◌, List, [], ◌∷◌, Bool, true, false, length, take, drop, ltb, leb, eqb}
-use Rattle.std.proofs.Math.Option.{Option, some, none}
+use Rattle.std.specs.Prelude.{ℕ, zero, suc, ◌+◌, ◌-◌, ◌*◌, ◌^◌, List, [], ◌∷◌, Bool, true, false, length, take, drop, ltb, leb, eqb, None, Option, Some}
 use Rattle.laws.specs.Choice.{pick}
 use Rattle.wire.specs.Single.{SingleMetadata}
 use Rattle.wire.specs.Batch.{Item}
@@ -11,41 +10,41 @@ abbrev pub Got : Type 0 → Type 0
 Got A = Option (A × List ℕ)
 
 abbrev pub bind : {A B : Type 0} → Option A → (A → Option B) → Option B
-bind none f = none
-bind (some x) f = f x
+bind None f = None
+bind (Some x) f = f x
 
 abbrev pub and_then : {A B : Type 0} → Got A → (A → List ℕ → Option B) → Option B
-and_then none f = none
-and_then (some (x, r)) f = f x r
+and_then None f = None
+and_then (Some (x, r)) f = f x r
 
 -- all the bytes are used up
 abbrev pub whole : {A : Type 0} → Got A → Option A
-whole none = none
-whole (some (x, [])) = some x
-whole (some (x, b ∷ r)) = none
+whole None = None
+whole (Some (x, [])) = Some x
+whole (Some (x, b ∷ r)) = None
 
 abbrev pub cons? : {A : Type 0} → A → Option (List A) → Option (List A)
-cons? x none = none
-cons? x (some xs) = some (x ∷ xs)
+cons? x None = None
+cons? x (Some xs) = Some (x ∷ xs)
 
 -- ── Protocol Buffers ──
 
 -- a byte from 128 on holds seven bits, and the rest follows, which is not 0: a last byte of 0 would be one more than needed
 abbrev pub with_low : ℕ → Got ℕ → Got ℕ
-with_low b none = none
-with_low b (some (v, r)) = pick (eqb v 0) none (some (b - 128 + v * 128, r))
+with_low b None = None
+with_low b (Some (v, r)) = pick (eqb v 0) None (Some (b - 128 + v * 128, r))
 
 unfoldable pub read_varint : List ℕ → Got ℕ
-read_varint [] = none
-read_varint (b ∷ bs) = elim (ltb b 128) as (λ _. Got ℕ) [ true ↦ some (b, bs) | false ↦ with_low b (read_varint bs) ]
+read_varint [] = None
+read_varint (b ∷ bs) = elim (ltb b 128) as (λ _. Got ℕ) [ true ↦ Some (b, bs) | false ↦ with_low b (read_varint bs) ]
 
 -- a varint of a number below a limit
 unfoldable pub read_below : ℕ → List ℕ → Got ℕ
-read_below limit bs = and_then (read_varint bs) (λ v r. pick (ltb v limit) (some (v, r)) none)
+read_below limit bs = and_then (read_varint bs) (λ v r. pick (ltb v limit) (Some (v, r)) None)
 
 -- so many bytes
 unfoldable pub read_count : ℕ → List ℕ → Got (List ℕ)
-read_count n bs = pick (leb n (length bs)) (some (take n bs, drop n bs)) none
+read_count n bs = pick (leb n (length bs)) (Some (take n bs, drop n bs)) None
 
 -- the values of the fields: a length with its bytes, a uint64, an int32 that is not negative, a bool
 unfoldable pub read_bytes : List ℕ → Got (List ℕ)
@@ -58,11 +57,11 @@ abbrev pub read_size : List ℕ → Got ℕ
 read_size bs = read_below (2 ^ 31) bs
 
 abbrev pub read_bool : List ℕ → Got Bool
-read_bool bs = and_then (read_below 2 bs) (λ v r. some (eqb v 1, r))
+read_bool bs = and_then (read_below 2 bs) (λ v r. Some (eqb v 1, r))
 
 -- what follows a field's key, where that key comes next
 unfoldable pub after_key : ℕ → ℕ → List ℕ → Option (List ℕ)
-after_key tag wire bs = and_then (read_varint bs) (λ k r. pick (eqb k (tag * 8 + wire)) (some r) none)
+after_key tag wire bs = and_then (read_varint bs) (λ k r. pick (eqb k (tag * 8 + wire)) (Some r) None)
 
 -- a field that must be there
 abbrev pub read_field : {A : Type 0} → ℕ → ℕ → (List ℕ → Got A) → List ℕ → Got A
@@ -70,8 +69,8 @@ read_field tag wire value bs = bind (after_key tag wire bs) value
 
 -- one that may be absent: it is there if its key comes next
 abbrev pub present : {A : Type 0} → (List ℕ → Got A) → List ℕ → Option (List ℕ) → Got (Option A)
-present value bs none = some (none, bs)
-present value bs (some r) = and_then (value r) (λ x rest. some (some x, rest))
+present value bs None = Some (None, bs)
+present value bs (Some r) = and_then (value r) (λ x rest. Some (Some x, rest))
 
 abbrev pub read_optional : {A : Type 0} → ℕ → ℕ → (List ℕ → Got A) → List ℕ → Got (Option A)
 read_optional tag wire value bs = present value bs (after_key tag wire bs)
@@ -86,7 +85,7 @@ read_fields bs =
     and_then (read_optional 7 2 read_bytes r₃) (λ ordering_key r₄.
     and_then (read_optional 9 0 read_bool r₄) (λ null_value r₅.
     and_then (read_optional 10 0 read_bool r₅) (λ null_partition_key r₆.
-    some (
+    Some (
       record {
         partition_key = partition_key;
         payload_size = payload_size;
@@ -104,11 +103,11 @@ read_single bs = whole (read_fields bs)
 -- ── the items of a batch ──
 
 unfoldable pub read_be32 : List ℕ → Got ℕ
-read_be32 [] = none
-read_be32 (a ∷ []) = none
-read_be32 (a ∷ b ∷ []) = none
-read_be32 (a ∷ b ∷ c ∷ []) = none
-read_be32 (a ∷ b ∷ c ∷ d ∷ r) = some (((a * 256 + b) * 256 + c) * 256 + d, r)
+read_be32 [] = None
+read_be32 (a ∷ []) = None
+read_be32 (a ∷ b ∷ []) = None
+read_be32 (a ∷ b ∷ c ∷ []) = None
+read_be32 (a ∷ b ∷ c ∷ d ∷ r) = Some (((a * 256 + b) * 256 + c) * 256 + d, r)
 
 abbrev pub with_payload : SingleMetadata → List ℕ → Item
 with_payload m payload =
@@ -127,10 +126,10 @@ read_item bs =
     and_then (read_be32 bs) (λ n r₁.
     and_then (read_count n r₁) (λ head r₂.
     bind (read_single head) (λ m.
-    and_then (read_count m.payload_size r₂) (λ payload r₃. some (with_payload m payload, r₃)))))
+    and_then (read_count m.payload_size r₂) (λ payload r₃. Some (with_payload m payload, r₃)))))
 
 -- so many items, filling the payload
 unfoldable pub read_items : ℕ → List ℕ → Option (List Item)
-read_items zero [] = some []
-read_items zero (b ∷ bs) = none
+read_items zero [] = Some []
+read_items zero (b ∷ bs) = None
 read_items (suc n) bs = and_then (read_item bs) (λ i r. cons? i (read_items n r))

@@ -1,6 +1,5 @@
 -- SingleMessageMetadata of PulsarApi.proto, with the fields that document 01 names ('producer.rs: batch').
-use Rattle.std.specs.Prelude.{ℕ, List, ◌++◌, Bool, pos}
-use Rattle.std.proofs.Math.Option.{Option}
+use Rattle.std.specs.Prelude.{ℕ, List, ◌++◌, Bool, pos, Option}
 use Rattle.wire.specs.Proto.{optional, bytes_field, int32_field, varint_field, bool_field}
 
 -- what it holds; absent differs from empty and from false

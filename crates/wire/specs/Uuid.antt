@@ -1,6 +1,5 @@
 -- The text form of a uuid: 16 bytes become 36 lowercase characters, 8-4-4-4-12 (document 01, 'producer.rs: sends').
-use Rattle.std.specs.Prelude.{ℕ, zero, suc, ◌+◌, ◌-◌, ◌*◌, ◌/◌, ◌%◌, List, [], ◌∷◌, ◌++◌, Bool, ◌&&◌, ◌||◌, take, drop, ltb, leb, eqb}
-use Rattle.std.proofs.Math.Option.{Option, some, none}
+use Rattle.std.specs.Prelude.{ℕ, zero, suc, ◌+◌, ◌-◌, ◌*◌, ◌/◌, ◌%◌, List, [], ◌∷◌, ◌++◌, Bool, ◌&&◌, ◌||◌, take, drop, ltb, leb, eqb, None, Option, Some}
 use Rattle.laws.specs.Choice.{pick}
 use Rattle.wire.specs.Read.{Got, bind, and_then, cons?}
 
@@ -51,29 +50,29 @@ text_from i (b ∷ bs) = dash i ++ hex_byte b ++ text_from (suc i) bs
 -- a digit's number
 abbrev pub read_digit : ℕ → Option ℕ
 read_digit c =
-    pick (leb 48 c && leb c 57) (some (c - 48)) (pick (leb 97 c && leb c 102) (some (c - 87)) none)
+    pick (leb 48 c && leb c 57) (Some (c - 48)) (pick (leb 97 c && leb c 102) (Some (c - 87)) None)
 
 abbrev pub two_digits : Option ℕ → Option ℕ → List ℕ → Got ℕ
-two_digits (some high) (some low) rest = some (high * 16 + low, rest)
-two_digits (some high) none rest = none
-two_digits none low rest = none
+two_digits (Some high) (Some low) rest = Some (high * 16 + low, rest)
+two_digits (Some high) None rest = None
+two_digits None low rest = None
 
 abbrev pub read_hex : List ℕ → Got ℕ
-read_hex [] = none
-read_hex (c ∷ []) = none
+read_hex [] = None
+read_hex (c ∷ []) = None
 read_hex (c ∷ d ∷ rest) = two_digits (read_digit c) (read_digit d) rest
 
 abbrev pub take_dash : List ℕ → Option (List ℕ)
-take_dash [] = none
-take_dash (c ∷ cs) = pick (eqb c 45) (some cs) none
+take_dash [] = None
+take_dash (c ∷ cs) = pick (eqb c 45) (Some cs) None
 
 abbrev pub read_dash : ℕ → List ℕ → Option (List ℕ)
-read_dash i cs = pick (dashed i) (take_dash cs) (some cs)
+read_dash i cs = pick (dashed i) (take_dash cs) (Some cs)
 
 -- n bytes, from the i-th on, that fill the text
 unfoldable pub read_text : ℕ → ℕ → List ℕ → Option (List ℕ)
-read_text zero i [] = some []
-read_text zero i (c ∷ cs) = none
+read_text zero i [] = Some []
+read_text zero i (c ∷ cs) = None
 read_text (suc n) i cs =
     bind (read_dash i cs) (λ r. and_then (read_hex r) (λ b rest. cons? b (read_text n (suc i) rest)))
 

@@ -1,15 +1,14 @@
 // Protocol Buffers fields: a varint, or bytes after their length. A tag is a u8, so that no key overflows.
 ghost use Rattle.std.specs.Prelude.{◌≡◌, true, length};
-ghost use Rattle.types.specs.Values.{num_of, mark_of, bytes_of, maybe_in};
+ghost use Rattle.types.specs.Values.{bytes_of, maybe_in};
 ghost use Rattle.wire.specs.Proto.{varint_field, bytes_field, bool_field, optional};
 ghost use Rattle.wire.specs.Length.{zeros, stopped};
 ghost use Rattle.wire.specs.Buffer.{Room, Puts};
 
+use types::message::Part;
 use crate::copy::copy;
 use crate::sum::sum;
 use crate::varint::{put_varint, varint_len};
-use types::message::MaybePart;
-use types::optional::{MaybeBool, MaybeU64};
 
 // Wire types.
 const VARINT: u64 = 0;
@@ -33,23 +32,23 @@ fn put_bytes(out: &mut [u8], at: usize, tag: u8, bytes: &[u8]) -> usize
     bytes_at + copy(&mut out[bytes_at..], bytes)
 }
 
-pub fn put_maybe_number(out: &mut [u8], at: usize, tag: u8, v: MaybeU64) -> usize
-    requires { Room (optional (varint_field tag) (num_of v)) at out.old }
-    ensures { Puts (optional (varint_field tag) (num_of v)) at out.old out.new result }
+pub fn put_maybe_number(out: &mut [u8], at: usize, tag: u8, v: Option<u64>) -> usize
+    requires { Room (optional (varint_field tag) v) at out.old }
+    ensures { Puts (optional (varint_field tag) v) at out.old out.new result }
 {
     match v {
-        MaybeU64::Absent => at,
-        MaybeU64::Present(n) => put_number(out, at, tag, n),
+        None => at,
+        Some(n) => put_number(out, at, tag, n),
     }
 }
 
-pub fn put_maybe_part(out: &mut [u8], at: usize, tag: u8, store: &[u8], p: MaybePart) -> usize
+pub fn put_maybe_part(out: &mut [u8], at: usize, tag: u8, store: &[u8], p: Option<Part>) -> usize
     requires { (maybe_in (length store.now) p ≡ true) × Room (optional (bytes_field tag) (bytes_of store.now p)) at out.old }
     ensures { Puts (optional (bytes_field tag) (bytes_of store.now p)) at out.old out.new result }
 {
     match p {
-        MaybePart::Absent => at,
-        MaybePart::Present(part) => {
+        None => at,
+        Some(part) => {
             let start = part.start;
             let end = start + part.len;
             put_bytes(out, at, tag, &store[start..end])
@@ -58,13 +57,13 @@ pub fn put_maybe_part(out: &mut [u8], at: usize, tag: u8, store: &[u8], p: Maybe
 }
 
 // A present false is written too.
-pub fn put_maybe_mark(out: &mut [u8], at: usize, tag: u8, mark: MaybeBool) -> usize
-    requires { Room (optional (bool_field tag) (mark_of mark)) at out.old }
-    ensures { Puts (optional (bool_field tag) (mark_of mark)) at out.old out.new result }
+pub fn put_maybe_mark(out: &mut [u8], at: usize, tag: u8, mark: Option<bool>) -> usize
+    requires { Room (optional (bool_field tag) mark) at out.old }
+    ensures { Puts (optional (bool_field tag) mark) at out.old out.new result }
 {
     match mark {
-        MaybeBool::Absent => at,
-        MaybeBool::Present(b) => put_number(out, at, tag, b as u64),
+        None => at,
+        Some(b) => put_number(out, at, tag, b as u64),
     }
 }
 
@@ -74,30 +73,30 @@ pub fn number_len(tag: u8, v: u64) -> usize
     varint_len(tag as u64 * 8 + VARINT) + varint_len(v)
 }
 
-pub fn maybe_number_len(tag: u8, v: MaybeU64) -> usize
-    ensures { result ≡ stopped (length (optional (varint_field tag) (num_of v))) }
+pub fn maybe_number_len(tag: u8, v: Option<u64>) -> usize
+    ensures { result ≡ stopped (length (optional (varint_field tag) v)) }
 {
     match v {
-        MaybeU64::Absent => 0,
-        MaybeU64::Present(n) => number_len(tag, n),
+        None => 0,
+        Some(n) => number_len(tag, n),
     }
 }
 
-pub fn maybe_mark_len(tag: u8, mark: MaybeBool) -> usize
-    ensures { result ≡ stopped (length (optional (bool_field tag) (mark_of mark))) }
+pub fn maybe_mark_len(tag: u8, mark: Option<bool>) -> usize
+    ensures { result ≡ stopped (length (optional (bool_field tag) mark)) }
 {
     match mark {
-        MaybeBool::Absent => 0,
-        MaybeBool::Present(b) => number_len(tag, b as u64),
+        None => 0,
+        Some(b) => number_len(tag, b as u64),
     }
 }
 
-pub fn maybe_part_len(tag: u8, p: MaybePart) -> usize
+pub fn maybe_part_len(tag: u8, p: Option<Part>) -> usize
     ensures { result ≡ stopped (length (optional (bytes_field tag) (zeros p))) }
 {
     match p {
-        MaybePart::Absent => 0,
-        MaybePart::Present(part) => {
+        None => 0,
+        Some(part) => {
             let n = part.len;
             let head = varint_len(tag as u64 * 8 + LENGTH_DELIMITED) + varint_len(n as u64);
             sum(head, n)

@@ -2,5 +2,5 @@
 use Rattle.script.proofs.Outputs.{next}
 use Rattle.host.proofs.call.put_error.Goals as goal
 
-pub returns-in-Done : goal.returns-in-Done
-returns-in-Done c = search next
+pub returns-in-Ok : goal.returns-in-Ok
+returns-in-Ok c = search next

@@ -74,8 +74,8 @@ loop-store-preserved-after-i-gt0 c =
     ] in
     (next (next (next c.loop-store.invariant.0 c.next_step-step.ensures.1) c.put_settled-told.ensures) c.put_publish-to.ensures, k5)
 
-pub loop-store-preserved-in-Nothing : goal.loop-store-preserved-in-Nothing
-loop-store-preserved-in-Nothing c =
+pub loop-store-preserved-in-None : goal.loop-store-preserved-in-None
+loop-store-preserved-in-None c =
     (next (next c.loop-store.invariant.0 c.next_step-step.ensures.1) c.put_refusal-to.ensures, c.loop-store.invariant.1)
 
 pub loop-store-preserved-then-p-2 : goal.loop-store-preserved-then-p-2

@@ -2,5 +2,5 @@
 use Rattle.script.proofs.Outputs.{next}
 use Rattle.host.proofs.lent.put_drained.Goals as goal
 
-pub returns-in-Count : goal.returns-in-Count
-returns-in-Count c = search next
+pub returns-in-Ok : goal.returns-in-Ok
+returns-in-Ok c = search next

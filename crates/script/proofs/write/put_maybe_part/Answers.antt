@@ -2,5 +2,5 @@
 use Rattle.script.proofs.Outputs.{next}
 use Rattle.script.proofs.write.put_maybe_part.Goals as goal
 
-pub returns-in-Present : goal.returns-in-Present
-returns-in-Present c = search next
+pub returns-in-Some : goal.returns-in-Some
+returns-in-Some c = search next

@@ -2,8 +2,8 @@
 use Rattle.script.proofs.Outputs.{next}
 use Rattle.script.proofs.write.put_txn_halves.Goals as goal
 
-pub returns-in-Absent : goal.returns-in-Absent
-returns-in-Absent c = search next
+pub returns-in-None : goal.returns-in-None
+returns-in-None c = search next
 
-pub returns-in-Present : goal.returns-in-Present
-returns-in-Present c = search next
+pub returns-in-Some : goal.returns-in-Some
+returns-in-Some c = search next

@@ -6,7 +6,7 @@ use lib.ListN.{length, get_or}
 use Rattle.laws.specs.Ring.{slot}
 use Rattle.laws.proofs.Slots.{slot_below}
 use Rattle.laws.proofs.Loops.{missed_step, missed_hit, missed_all}
-use Rattle.upkeep.specs.Pending.{keys, wanted, to_found}
+use Rattle.upkeep.specs.Pending.{keys, wanted}
 use Rattle.upkeep.proofs.Keys.{length_keys, keys_at}
 use Prim.Native.Nat.{ℕ, ◌<◌}
 use mathlib.Core.Path.{◌≡◌, ap, sym, ◌∙◌}
@@ -38,15 +38,13 @@ pub returns-then-n-i : goal.returns-then-n-i
 returns-then-n-i c =
     let a = c.args in
     sym
-    (ap to_found
     (missed_all 256 pos (wanted a.id a.any) (keys a.ids.now a.marks.now) a.head a.len
-    (len a.ids.now a.marks.now (omega arith) (omega arith)) _ c.loop-i.invariant (omega arith)))
+    (len a.ids.now a.marks.now (omega arith) (omega arith)) _ c.loop-i.invariant (omega arith))
 
 pub returns-then-bears : goal.returns-then-bears
 returns-then-bears c =
     let a = c.args in
     sym
-    (ap to_found
     (missed_hit 256 pos (wanted a.id a.any) (keys a.ids.now a.marks.now) a.head a.len
     (len a.ids.now a.marks.now (omega arith) (omega arith)) _ c.loop-i.invariant (0, true) (omega arith)
-    (test a.ids.now a.marks.now (omega arith) (omega arith) a.head _ a.id a.any (sym c.bears.ensures ∙ c.if-bears.true))))
+    (test a.ids.now a.marks.now (omega arith) (omega arith) a.head _ a.id a.any (sym c.bears.ensures ∙ c.if-bears.true)))

@@ -4,6 +4,6 @@ use lib.ListN.{length-append, length-replicate}
 use Rattle.wire.specs.Proto.{key, bytes_field}
 use Rattle.wire.proofs.field.maybe_part_len.Goals as goal
 
-pub returns-in-Present : goal.returns-in-Present
+pub returns-in-Some : goal.returns-in-Some
 unfolding bytes_field key
-returns-in-Present c = rw c.in-Present.is (simp (length-append, length-replicate) (omega arith))
+returns-in-Some c = rw c.in-Some.is (simp (length-append, length-replicate) (omega arith))

@@ -1,5 +1,5 @@
 -- `Core::choose_within`: the refusals are the definition's, in its order.
-use Rattle.std.specs.Prelude.{◌≡◌, ℕ, ◌+◌, min, Bool, not, ◌&&◌, ltb, leb}
+use Rattle.std.specs.Prelude.{◌≡◌, ℕ, ◌+◌, min, Bool, not, ◌&&◌, ltb, leb, Err, Ok}
 use mathlib.Core.Path.{refl, ap, sym, ◌∙◌}
 use Rattle.laws.specs.Choice.{pick}
 use Rattle.types.specs.declared.error.ProducerError.TheVariants.{OutboundFull, HeldFull, PendingFull}
@@ -7,7 +7,6 @@ use Rattle.types.specs.declared.message.OutgoingMessage.{OutgoingMessage}
 use Rattle.types.specs.declared.way.Way.{Way}
 use Rattle.queue.specs.Send.{way_of, pushes, joins, is_too_large}
 use Rattle.plans.specs.declared.state.Core.{Core}
-use Rattle.plans.specs.declared.choose.SendPlan.TheVariants.{Refuse, Go}
 use Rattle.plans.specs.Choose.{allowed_way, chosen_within}
 use Rattle.plans.proofs.state.Core.choose_within.Goals as goal
 
@@ -17,13 +16,13 @@ module _ (m : OutgoingMessage) (c : Core) {w : Way} (e : w ≡ way_of c.settings
       → r4 ≡ ltb 1024 (c.rings.waiting + n) → r4 ≡ b4
       → r5 ≡ joins w && leb 512 (min c.rings.held_len 512) → r5 ≡ b5
       → r7 ≡ not (is_too_large w) && leb 256 (min c.rings.pending_len 256) → r7 ≡ b7
-      → pick b4 (Refuse OutboundFull) (pick b5 (Refuse HeldFull) (pick b7 (Refuse PendingFull) (Go w))) ≡ chosen_within m c
+      → pick b4 (Err OutboundFull) (pick b5 (Err HeldFull) (pick b7 (Err PendingFull) (Ok w))) ≡ chosen_within m c
   unfolding chosen_within
   by en q4 e4 q5 e5 q7 e7 =
       let f4 = ap (λ (k : ℕ). ltb 1024 (c.rings.waiting + k)) (sym en) ∙ sym q4 ∙ e4 in
       let f5 = sym q5 ∙ e5 in
       let f7 = sym q7 ∙ e7 in
-      sym (λ i. pick (f4 i) (Refuse OutboundFull) (pick (f5 i) (Refuse HeldFull) (pick (f7 i) (Refuse PendingFull) (Go w))))
+      sym (λ i. pick (f4 i) (Err OutboundFull) (pick (f5 i) (Err HeldFull) (pick (f7 i) (Err PendingFull) (Ok w))))
       ∙ ap (λ (v : Way). allowed_way v c) e
 
 pub returns-then-too_many : goal.returns-then-too_many

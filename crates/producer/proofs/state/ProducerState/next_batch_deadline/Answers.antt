@@ -1,8 +1,7 @@
 -- `ProducerState::next_batch_deadline`: that of the scalars.
 use Rattle.std.proofs.Common.{ap, ◌∙◌}
-use Rattle.types.specs.Values.{num_of}
 use Rattle.producer.proofs.Queries.{batch_deadline_lem}
 use Rattle.producer.proofs.state.ProducerState.next_batch_deadline.Goals as goal
 
 pub returns : goal.returns
-returns c = ap num_of c.next_batch_deadline.ensures ∙ batch_deadline_lem c.args.self
+returns c = ap c.next_batch_deadline.ensures ∙ batch_deadline_lem c.args.self

@@ -5,8 +5,8 @@ use Rattle.plans.specs.Replay.{replay_count}
 use Rattle.producer.proofs.Replays.{found, counts, counts_not}
 use Rattle.producer.proofs.state.ProducerState.replay_pending_outbound.Goals as goal
 
-pub returns-in-Count : goal.returns-in-Count
-returns-in-Count c =
+pub returns-in-Ok : goal.returns-in-Ok
+returns-in-Ok c =
     let both =
     let s = c.args.self in
     let u = c.unborne-left in
@@ -19,11 +19,11 @@ returns-in-Count c =
     found s ids.result ops.result l m.result n.result (ap (λ (k : ℕ). take k ids.result) m.ensures ∙ ids.ensures)
     (ap (λ (k : ℕ). take k ops.result) n.ensures ∙ ops.ensures) u.ensures.0 in
     let p = c.replay_count-answer.ensures ∙ ap (λ (k : ℕ). replay_count k s.core) c.frames_for.ensures in
-    counts s c.front_frames-s.result l c.replay_count-answer.result e p _ c.in-Count.is c.front_frames-s.ensures in
+    counts s c.front_frames-s.result l c.replay_count-answer.result e p _ c.in-Ok.is c.front_frames-s.ensures in
     record { answer_value = both.0; kept = both.1 }
 
-pub returns-in-Refused : goal.returns-in-Refused
-returns-in-Refused c =
+pub returns-in-Err : goal.returns-in-Err
+returns-in-Err c =
     let both =
     let s = c.args.self in
     let u = c.unborne-left in
@@ -36,5 +36,5 @@ returns-in-Refused c =
     found s ids.result ops.result l m.result n.result (ap (λ (k : ℕ). take k ids.result) m.ensures ∙ ids.ensures)
     (ap (λ (k : ℕ). take k ops.result) n.ensures ∙ ops.ensures) u.ensures.0 in
     let p = c.replay_count-answer.ensures ∙ ap (λ (k : ℕ). replay_count k s.core) c.frames_for.ensures in
-    counts_not s l c.replay_count-answer.result e p _ c.in-Refused.is in
+    counts_not s l c.replay_count-answer.result e p _ c.in-Err.is in
     record { answer_value = both.0; kept = both.1 }

@@ -10,8 +10,8 @@ use Rattle.producer.proofs.Full.{full}
 use Rattle.producer.proofs.Replays.{replays, replays_not}
 use Rattle.producer.proofs.state.ProducerState.replayed.Goals as goal
 
-pub returns-in-Done : goal.returns-in-Done
-returns-in-Done c =
+pub returns-in-Ok : goal.returns-in-Ok
+returns-in-Ok c =
     let both =
     let a = c.args in
     let s = a.self in
@@ -27,11 +27,11 @@ returns-in-Done c =
     (c.front_entries-pending.ensures
     ∙ ap (λ (q : Queue). with_pending (front_all 256 (map mark (take n.result a.table)) q.pending) q) c.mark_all-marked.ensures)
     ∙ ap (λ (k : ℕ). with_out (fronted (take k a.table) (view s).out) (with_pending (front_all 256 (map mark (take k a.table)) (map mark (view s).pending)) (view s))) n.ensures in
-    replays s c.front_frames-s.result (full s c.well_formed.0) a.«well_formed» a.table a.n len c.replay_answer-answer.result p c.in-Done.is v in
+    replays s c.front_frames-s.result (full s c.well_formed.0) a.«well_formed» a.table a.n len c.replay_answer-answer.result p c.in-Ok.is v in
     record { answer_value = both.0; kept = both.1 }
 
-pub returns-in-Refused : goal.returns-in-Refused
-returns-in-Refused c =
+pub returns-in-Err : goal.returns-in-Err
+returns-in-Err c =
     let both =
     let a = c.args in
     let s = a.self in
@@ -41,5 +41,5 @@ returns-in-Refused c =
     c.replay_answer-answer.ensures
     ∙ ap (λ (k : ℕ). replay_answer a.«well_formed» a.n k s.core)
     (c.frames_for.ensures ∙ ap (λ (k : ℕ). add_sat 0 (frames_for (take k a.table))) n.ensures) in
-    replays_not s (full s c.well_formed.0) a.«well_formed» a.table a.n len c.replay_answer-answer.result p _ c.in-Refused.is in
+    replays_not s (full s c.well_formed.0) a.«well_formed» a.table a.n len c.replay_answer-answer.result p _ c.in-Err.is in
     record { answer_value = both.0; kept = both.1 }
