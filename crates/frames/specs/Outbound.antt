@@ -1,5 +1,5 @@
 -- The front frame as it goes out. These mirror the code: what a reader must believe is in crate `queue`.
-use Rattle.std.specs.Prelude.{ℕ, ◌^◌, Bool, true, false, ltb, replicate, None, Option, Some}
+use Rattle.std.specs.Prelude.{ℕ, ◌^◌, Bool, true, List, ltb, None, Option, Some}
 use Rattle.laws.specs.Choice.{pick}
 use Rattle.wire.specs.Uuid.{uuid_text}
 use Rattle.queue.specs.Batch.{at_least_one}
@@ -9,16 +9,12 @@ use Rattle.types.specs.declared.frame.FrameRecord.{FrameRecord}
 use Rattle.types.specs.declared.frame.FrameKind.{FrameKind}
 use Rattle.types.specs.declared.frame.FrameKind.TheVariants.{Single, Batch, Chunked}
 use Rattle.types.specs.declared.types.ProducerHandle.{ProducerHandle}
-use Rattle.types.specs.declared.outbound.UuidText.{UuidText}
 use Rattle.types.specs.declared.outbound.OutboundFrame.{OutboundFrame}
 
 abbrev pub present_if : Bool → ℕ → Option ℕ
 present_if there n = pick there (Some n) None
 
-abbrev pub no_uuid : UuidText
-no_uuid = record { present = false; text = replicate 36 0 }
-
-abbrev pub message_out : ProducerHandle → FrameRecord → ℕ → Option Bool → Option ℕ → Option ℕ → Option ℕ → Option ℕ → UuidText → ℕ → OutboundFrame
+abbrev pub message_out : ProducerHandle → FrameRecord → ℕ → Option Bool → Option ℕ → Option ℕ → Option ℕ → Option ℕ → Option (List ℕ) → ℕ → OutboundFrame
 message_out handle r num_messages is_chunk size chunk_id num_chunks totalSize uuid len =
     let m = r.message in
     record {
@@ -58,12 +54,12 @@ message_out handle r num_messages is_chunk size chunk_id num_chunks totalSize uu
 abbrev pub single_out : ProducerHandle → FrameRecord → ℕ → OutboundFrame
 single_out handle r len =
     let size = r.message.uncompressed_size in
-    message_out handle r (at_least_one r.message.num_messages) None (present_if (ltb 0 size) size) None None None no_uuid len
+    message_out handle r (at_least_one r.message.num_messages) None (present_if (ltb 0 size) size) None None None None len
 
 abbrev pub chunk_out : ProducerHandle → FrameRecord → ChunkedMessageContext → ℕ → OutboundFrame
 chunk_out handle r c len =
     message_out handle r 1 (Some true) (Some r.message.uncompressed_size) (Some c.next_chunk)
-    (Some c.total_chunks) (Some r.message.payload.len) (record { present = true; text = uuid_text r.uuid }) len
+    (Some c.total_chunks) (Some r.message.payload.len) (Some (uuid_text r.uuid)) len
 
 abbrev pub batch_frame_out : ProducerHandle → FrameRecord → BatchFrame → Option ℕ → Option ℕ → ℕ → OutboundFrame
 batch_frame_out handle r b highest size len =
@@ -96,7 +92,7 @@ batch_frame_out handle r b highest size len =
         chunk_id = None;
         num_chunks_from_msg = None;
         total_chunk_msg_size = None;
-        uuid = no_uuid;
+        uuid = None;
       };
       payload_len = len;
     }

@@ -4,19 +4,15 @@ ghost use Rattle.frames.specs.Outbound.{present_if, message_out, single_out, chu
 
 use rules::numbers::message_count;
 use types::frame::{BatchFrame, ChunkedMessageContext, FrameKind, FrameRecord};
-use types::message::{Part};
-use types::outbound::{CommandSend, FrameName, MessageMetadata, OutboundFrame, UuidText};
-use types::types::{ProducerHandle};
+use types::message::Part;
+use types::outbound::{CommandSend, FrameName, MessageMetadata, OutboundFrame};
+use types::types::ProducerHandle;
 use wire::uuid::uuid_text;
 
 fn present_if(there: bool, n: u64) -> Option<u64>
     ensures { result ≡ present_if there n }
 {
-    if there {
-        Some(n)
-    } else {
-        None
-    }
+    if there { Some(n) } else { None }
 }
 
 // What a single frame and a chunk have alike.
@@ -29,7 +25,7 @@ fn message_frame(
     chunk_id: Option<u64>,
     num_chunks: Option<u64>,
     total_size: Option<u64>,
-    uuid: UuidText,
+    uuid: Option<[u8; 36]>,
     payload_len: usize,
 ) -> OutboundFrame
     ensures { result ≡ message_out handle front num_messages is_chunk uncompressed_size chunk_id num_chunks total_size uuid payload_len }
@@ -96,10 +92,6 @@ fn single_frame(handle: ProducerHandle, front: FrameRecord, payload_len: usize) 
     let count = message_count(m.num_messages) as u64;
     let size = m.uncompressed_size;
     let uncompressed_size = present_if(0 < size, size as u64);
-    let uuid = UuidText {
-        present: false,
-        text: [0; 36],
-    };
     message_frame(
         handle,
         front,
@@ -109,7 +101,7 @@ fn single_frame(handle: ProducerHandle, front: FrameRecord, payload_len: usize) 
         None,
         None,
         None,
-        uuid,
+        None,
         payload_len,
     )
 }
@@ -126,10 +118,6 @@ fn chunk_frame(
     let payload = m.payload;
     let bytes = front.uuid;
     let text = uuid_text(bytes);
-    let uuid = UuidText {
-        present: true,
-        text: text,
-    };
     message_frame(
         handle,
         front,
@@ -139,7 +127,7 @@ fn chunk_frame(
         Some(c.next_chunk as u64),
         Some(c.total_chunks as u64),
         Some(payload.len as u64),
-        uuid,
+        Some(text),
         payload_len,
     )
 }
@@ -191,10 +179,7 @@ fn batch_frame(
         chunk_id: None,
         num_chunks_from_msg: None,
         total_chunk_msg_size: None,
-        uuid: UuidText {
-            present: false,
-            text: [0; 36],
-        },
+        uuid: None,
     };
     OutboundFrame {
         command: command,

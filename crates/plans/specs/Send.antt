@@ -103,10 +103,10 @@ joined_after before a c =
     let f = flushed_if before a.publish_time c in
     let j = joined a f.core in
     let g = flushed_full a.publish_time j.core in
-    record { answer = Batched; core = g.core; first = f.frame; second = g.frame; entry = j.entry; held = j.held }
+    record { answer = Ok Batched; core = g.core; first = f.frame; second = g.frame; entry = j.entry; held = j.held }
 
 abbrev pub emitted_after : FramePut → Emitted → ℕ → SendDelta
-emitted_after first e count = record { answer = Emit count; core = e.core; first = first; second = e.frame; entry = e.entry; held = no_held }
+emitted_after first e count = record { answer = Ok (Emit count); core = e.core; first = first; second = e.frame; entry = e.entry; held = no_held }
 
 abbrev pub singled_after : Bool → Sending → Core → SendDelta
 singled_after before a c =

@@ -11,15 +11,8 @@ use types::memory_limit::MemoryReservation;
 use types::message::OutgoingMessage;
 use types::way::Way;
 
-// What becomes of a send. One that 6 refuses goes its way, which may flush.
-#[derive(Clone, Copy)]
-pub enum Result<Way, ProducerError> {
-    Refuse(ProducerError),
-    Go(Way),
-}
-
 impl Core {
-    // 4, 5 and 7.
+    // The way of a send that 4, 5 and 7 let through.
     fn choose_within(self, m: OutgoingMessage) -> Result<Way, ProducerError>
         requires { m.payload.len ≤ 16777216 }
         ensures { result ≡ chosen_within m self }
@@ -36,7 +29,7 @@ impl Core {
         }
     }
 
-    // For a store of so many bytes: 1, 2 and 3, and then the others.
+    // For a store of so many bytes: 1, 2 and 3, and then the others. A send that 6 refuses goes its way, which may flush.
     pub fn choose(
         self,
         store_len: usize,

@@ -2,13 +2,13 @@
 ghost use Rattle.std.specs.Prelude.{◌≡◌};
 ghost use Rattle.plans.specs.Delta.{no_frame, no_entry, no_held, accepted, pushed, held, counted_core};
 
-use types::error::ProducerError;
 use crate::state::Core;
 use rules::blank::no_message;
 use rules::numbers::{saturating_add, saturating_add_u64, wrapping_next};
 use rules::rings::{Ring, place_of};
-use types::answer::{SendDecision};
+use types::answer::SendDecision;
 use types::entry::{Publish, Replay};
+use types::error::ProducerError;
 use types::frame::{FrameKind, FrameRecord, ProducerName};
 use types::memory_limit::MemoryReservation;
 use types::message::{Part, SingleMessage};
@@ -44,7 +44,7 @@ pub struct HeldPut {
 // Of a send. `first` is the batch that is flushed before; `second` is the message's own frame, or the batch that it filled.
 #[derive(Clone, Copy)]
 pub struct SendDelta {
-    pub answer: SendDecision,
+    pub answer: Result<SendDecision, ProducerError>,
     pub core: Core,
     pub first: FramePut,
     pub second: FramePut,

@@ -72,7 +72,12 @@ impl Core {
     }
 
     // `replay_snapshots` is refused by 12, then 7, then 4.
-    pub fn replay_answer(self, well_formed: bool, entries: usize, frames: usize) -> Result<(), ProducerError>
+    pub fn replay_answer(
+        self,
+        well_formed: bool,
+        entries: usize,
+        frames: usize,
+    ) -> Result<(), ProducerError>
         ensures { result ≡ replay_answer well_formed entries frames self }
     {
         let pending_full = too_many_pending(self.rings.pending_len, entries);

@@ -69,7 +69,7 @@ fn emit_delta(first: FramePut, e: Emitted, count: usize) -> SendDelta
     let entry = e.entry;
     let held = no_held();
     SendDelta {
-        answer: SendDecision::Emit { count: count },
+        answer: Ok(SendDecision::Emit { count: count }),
         core: core,
         first: first,
         second: second,
@@ -234,7 +234,7 @@ impl Core {
         let core = g.core;
         let second = g.frame;
         SendDelta {
-            answer: SendDecision::Batched,
+            answer: Ok(SendDecision::Batched),
             core: core,
             first: first,
             second: second,

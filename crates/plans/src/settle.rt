@@ -2,10 +2,10 @@
 ghost use Rattle.std.specs.Prelude.{◌≡◌};
 ghost use Rattle.plans.specs.Settle.{core_without, core_published};
 
-use types::error::ProducerError;
 use crate::state::Core;
 use rules::numbers::{at_most, saturating_sub};
 use rules::rings::head_after;
+use types::error::ProducerError;
 use upkeep::stats::published_ids;
 
 impl Core {

@@ -2,13 +2,13 @@
 ghost use Rattle.std.specs.Prelude.{◌≡◌};
 ghost use Rattle.plans.specs.Take.{core_taken, take_planned};
 
-use types::error::ProducerError;
 use crate::state::Core;
 use frames::after::{record_after, stays};
 use frames::answer::{answer_of, is_done};
 use frames::outbound::frame_of;
 use frames::span::Span;
 use rules::numbers::{at_most, saturating_sub};
+use types::error::ProducerError;
 use types::frame::FrameRecord;
 use types::outbound::OutboundFrame;
 

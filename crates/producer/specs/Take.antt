@@ -5,7 +5,6 @@ use Rattle.types.specs.Values.{part_of, bytes_of, name_of}
 use Rattle.types.specs.declared.outbound.CommandSend.{CommandSend}
 use Rattle.types.specs.declared.outbound.MessageMetadata.{MessageMetadata}
 use Rattle.types.specs.declared.outbound.FrameName.{FrameName}
-use Rattle.types.specs.declared.outbound.UuidText.{UuidText}
 use Rattle.types.specs.declared.outbound.OutboundFrame.{OutboundFrame}
 use Rattle.queue.specs.Queue.{Answer}
 use Rattle.queue.specs.Frame.{Command, Metadata, Frame}
@@ -15,9 +14,6 @@ use Rattle.producer.specs.declared.take.OutboundAnswer.{OutboundAnswer}
 -- the message's own name where it is not empty, else the producer's
 abbrev pub name_told : List ℕ → FrameName → List ℕ
 name_told store n = pick (n.own.len == 0) (name_of n.producer) (part_of store n.own)
-
-abbrev pub uuid_told : UuidText → Option (List ℕ)
-uuid_told u = pick u.present (Some u.text) None
 
 abbrev pub command_told : CommandSend → Command
 command_told c =
@@ -52,7 +48,7 @@ metadata_told store m =
       chunk_id = m.chunk_id;
       num_chunks = m.num_chunks_from_msg;
       total_chunk_msg_size = m.total_chunk_msg_size;
-      uuid = uuid_told m.uuid;
+      uuid = m.uuid;
     }
 
 abbrev pub frame_told : List ℕ → List ℕ → OutboundFrame → Frame
