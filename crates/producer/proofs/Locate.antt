@@ -8,7 +8,7 @@ use Rattle.laws.specs.Ring.{ring, slot}
 use Rattle.laws.proofs.Slots.{slot_below}
 use Rattle.laws.proofs.Lists.{first_below}
 use Rattle.laws.proofs.Rings.{ring_map, length_ring, ring_at}
-use Rattle.upkeep.specs.Pending.{Key, keys, wanted, to_found, place_of, first_if, located}
+use Rattle.upkeep.specs.Pending.{Key, keys, wanted, place_of, first_if, located}
 use Rattle.types.specs.declared.entry.OpSend.{OpSend}
 use Rattle.types.specs.declared.entry.Publish.{Publish}
 use Rattle.queue.specs.Queue.{with_pending}
@@ -33,16 +33,12 @@ unfolding view
 length_view s f = length_ring 256 (lit< tt) (slots_of s) (slots s f) s.core.rings.pending_head s.core.rings.pending_len
 
 -- a place that was found lies among the entries
-found_below : (o : Option ℕ) (i : ℕ) → to_found o ≡ Some i → o ≡ Some i
-found_below None i e = absurd (let z : ◌≡◌ {A = ℕ} 0 1 = cc in omega arith)
-found_below (Some k) i e = let same : k ≡ i = cc in ap Some same
-
 pub located_below : (id : ℕ) (l : List Key) (i : ℕ) → located id l ≡ Some i → i < length l
 located_below id l i e = go (place_of (wanted id false) l) e
   where
     go : (m : Option ℕ) → first_if m (place_of (wanted id true) l) ≡ Some i → i < length l
     go (Some k) q =
-        let b : i < 0 + length l = first_below (wanted id true) l 0 i (found_below (first_at (wanted id true) 0 l) i q) in
+        let b : i < 0 + length l = first_below (wanted id true) l 0 i q in
         omega arith
     go None q = absurd (let z : ◌≡◌ {A = ℕ} 0 1 = cc in omega arith)
 

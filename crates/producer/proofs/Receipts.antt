@@ -1,10 +1,10 @@
 -- From what settling an id leaves of a state to the answers of receipts and errors. Assumes nothing.
-use Rattle.std.specs.Prelude.{Err, Ok, Option, Some, None}
+use Rattle.std.specs.Prelude.{Err, Ok, Option, Some, None, Result}
 use Rattle.std.proofs.Common.{◌≡◌, ℕ, ◌+◌, Bool, true, false, List, ◌++◌, map, take, drop, ℤ, sym, refl, ap, ◌∙◌, subst}
 use Rattle.laws.specs.Lists.{first_at}
 use Rattle.laws.specs.Lists as lists
 use Rattle.laws.proofs.Lists.{map_take, map_drop, map_append}
-use Rattle.types.specs.declared.answer.Outcome as answer
+use Rattle.types.specs.declared.error.ProducerError.{ProducerError}
 use Rattle.types.specs.declared.error.ProducerError.TheVariants.{NotAnswerable}
 use Rattle.types.specs.Ids.{of_receipt}
 use Rattle.types.specs.declared.entry.OpSend.{OpSend}
@@ -27,7 +27,7 @@ map_without : {A B : Type 0} (f : A → B) (l : List A) (i : ℕ) → map f (lis
 map_without f l i = map_append f (take i l) (drop (i + 1) l) ∙ (λ j. map_take f i l j ++ map_drop f (i + 1) l j)
 
 -- a change that a refused call does not make
-abbrev pub unless_refused : answer.Outcome → (Queue → Queue) → Queue → Queue
+abbrev pub unless_refused : Result (Unit {0}) ProducerError → (Queue → Queue) → Queue → Queue
 unless_refused (Ok tt) f q = f q
 unless_refused (Err e) f q = q
 
@@ -61,7 +61,7 @@ module _ {A : Type 0} (id : ℕ) (s : ProducerState) (r : Settled) (give : OpSen
       (subst (settles_at id s r) (located_is id (view s).pending) h)
 
 -- no change
-unchanged : (o : answer.Outcome) (q : Queue) → unless_refused o (λ p. p) q ≡ q
+unchanged : (o : Result (Unit {0}) ProducerError) (q : Queue) → unless_refused o (λ p. p) q ≡ q
 unchanged (Ok tt) q = refl
 unchanged (Err e) q = refl
 
@@ -79,13 +79,13 @@ failed id code s r h =
 
 -- the published number, unless the receipt was refused
 module _ (id : ℕ) (t : ProducerState) where
-  publishes : (o : answer.Outcome)
+  publishes : (o : Result (Unit {0}) ProducerError)
       → view (with_core (core_published o id t.core) t) ≡ unless_refused o (λ p. with_ids (published id p.ids) p) (view t)
   unfolding view
   publishes (Ok tt) = refl
   publishes (Err e) = refl
 
-  kept : {A : Type 0} (o : answer.Outcome) (x : A) (s : ProducerState) → Kept (told_giving o x) s t
+  kept : {A : Type 0} (o : Result (Unit {0}) ProducerError) (x : A) (s : ProducerState) → Kept (told_giving o x) s t
       → Kept (told_giving o x) s (with_core (core_published o id t.core) t)
   kept (Ok tt) x s k = k
   kept (Err e) x s k = k

@@ -6,7 +6,7 @@ use Rattle.laws.specs.Lists.{first_at}
 use Rattle.laws.specs.Lists as lists
 use Rattle.types.specs.declared.entry.OpSend.{OpSend}
 use Rattle.queue.specs.Settle.{bears, answerable, found, without}
-use Rattle.upkeep.specs.Pending.{wanted, to_found, first_if, located}
+use Rattle.upkeep.specs.Pending.{wanted, first_if, located}
 use Rattle.producer.specs.Settle.{key_of}
 
 -- one place on
@@ -69,7 +69,7 @@ marked_answerable id k (op ∷ l) = go (bears id op && op.answerable) (marked_an
 
 -- the place found, by the definitions' own tests
 abbrev pub place_if : Bool → Option ℕ → Option ℕ
-place_if true o = to_found o
+place_if true o = o
 place_if false o = None
 
 pub located_is : (id : ℕ) (l : List OpSend) → located id (map key_of l) ≡ place_if (answerable id l) (first_at (bears id) 0 l)
@@ -77,6 +77,6 @@ located_is id l =
     by (first_at (wanted id false) 0 (map key_of l)) (first_at (wanted id true) 0 (map key_of l))
     ∙ (λ j. place_if (marked_answerable id 0 l j) (any_bears id 0 l j))
   where
-    by : (m o : Option ℕ) → first_if (to_found m) (to_found o) ≡ place_if (is_found m) o
+    by : (m o : Option ℕ) → first_if m o ≡ place_if (is_found m) o
     by None o = refl
     by (Some i) o = refl

@@ -356,7 +356,7 @@ module _ (s : ProducerState) (f : Full s) (d : FrameRecord) where
 
     -- what a plan that goes through tells
     record Accepted : Type 0 where
-      Some : 0 < s.core.rings.outbound_len
+      some : 0 < s.core.rings.outbound_len
       inside : span.inside ≡ true
       fits : ltb (length before) span.len ≡ false
       is : answer ≡ (Ok tt)
@@ -381,7 +381,7 @@ module _ (s : ProducerState) (f : Full s) (d : FrameRecord) where
             differ (not_refused (is_done answer) (ap is_done a) t)
         by (yes p) true e false x =
             record {
-              Some = p;
+              some = p;
               inside = e;
               fits = x;
               is = pick_false _ _ (ne_eqb s.core.rings.outbound_len 0 (λ z. omega arith)) ∙ pick_true _ _ e ∙ pick_false _ _ x;

@@ -7,7 +7,6 @@ ghost use Rattle.queue.specs.Told.{Kept, told};
 ghost use Rattle.producer.specs.Replay.{frame_id, replayed_as};
 ghost use Rattle.producer.specs.View.{view};
 
-use types::error::ProducerError;
 use crate::send::CountAnswer;
 use crate::state::ProducerState;
 use rules::numbers::at_most;
@@ -16,6 +15,7 @@ use tables::load::{all_well_formed, load};
 use tables::pushes::frames_for;
 use tables::unborne::unborne;
 use types::entry::OpSend;
+use types::error::ProducerError;
 
 #[derive(Clone, Copy)]
 pub struct ReplayAnswer {

@@ -6,16 +6,16 @@ ghost use Rattle.queue.specs.Told.{told_send, told, Kept};
 ghost use Rattle.producer.specs.View.{view};
 ghost use Rattle.producer.specs.Send.{sending, KeptSend};
 
-use types::error::ProducerError;
 use crate::state::ProducerState;
 use plans::send::Sending;
-use types::answer::{SendDecision};
+use types::answer::SendDecision;
+use types::error::ProducerError;
 use types::memory_limit::MemoryReservation;
 use types::message::OutgoingMessage;
 
 #[derive(Clone, Copy)]
 pub struct SendAnswer {
-    pub answer: SendDecision,
+    pub answer: Result<SendDecision, ProducerError>,
     pub state: ProducerState,
 }
 

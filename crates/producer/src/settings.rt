@@ -5,8 +5,8 @@ ghost use Rattle.queue.specs.Ids.{set_initial_sequence_id};
 ghost use Rattle.queue.specs.Told.{told, Kept};
 ghost use Rattle.producer.specs.View.{view};
 
-use types::error::ProducerError;
 use crate::state::ProducerState;
+use types::error::ProducerError;
 use types::settings::Setting;
 
 #[derive(Clone, Copy)]

@@ -5,10 +5,10 @@ ghost use Rattle.queue.specs.Told.{Kept};
 ghost use Rattle.producer.specs.Take.{told_frame};
 ghost use Rattle.producer.specs.View.{view};
 
-use types::error::ProducerError;
 use crate::state::ProducerState;
 use frames::payload::put_payload;
 use frames::span::{held_count, payload_span};
+use types::error::ProducerError;
 use types::outbound::OutboundFrame;
 
 // On a refusal the frame means nothing.

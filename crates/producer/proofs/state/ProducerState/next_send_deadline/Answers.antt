@@ -1,5 +1,5 @@
 -- `ProducerState::next_send_deadline`: the entry at the head is the front one.
-use Rattle.std.proofs.Common.{ap, ◌∙◌}
+use Rattle.std.proofs.Common.{◌∙◌}
 use Rattle.producer.proofs.Full.{full}
 use Rattle.producer.proofs.Queries.{send_deadline_lem}
 use Rattle.producer.proofs.state.ProducerState.next_send_deadline.Goals as goal
@@ -7,4 +7,4 @@ use Rattle.producer.proofs.state.ProducerState.next_send_deadline.Goals as goal
 pub returns : goal.returns
 returns c =
     let s = c.args.self in
-    ap c.next_send_deadline.ensures ∙ send_deadline_lem s (full s c.well_formed.0) _
+    c.next_send_deadline.ensures ∙ send_deadline_lem s (full s c.well_formed.0) _
