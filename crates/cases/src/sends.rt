@@ -3,9 +3,10 @@ use crate::print::{end, label, number};
 use producer::state::ProducerState;
 use std::io;
 use types::answer::SendDecision;
+use types::error::ProducerError;
 use types::message::{OutgoingMessage, Part};
 use types::settings::Setting;
-use types::types::{ProducerHandle};
+use types::types::ProducerHandle;
 
 // The first `len` bytes of the store, with nothing else set.
 fn message(len: usize) -> OutgoingMessage {
@@ -27,13 +28,13 @@ fn message(len: usize) -> OutgoingMessage {
     }
 }
 
-fn decision(rt: &impl Print, d: SendDecision) -> io::Result<()> {
+fn decision(rt: &impl Print, d: Result<SendDecision, ProducerError>) -> io::Result<()> {
     match d {
-        SendDecision::Emit { count } => {
+        Ok(SendDecision::Emit { count }) => {
             label(rt, b" Emit")?;
             number(rt, count as u64)?;
         }
-        SendDecision::Batched => {
+        Ok(SendDecision::Batched) => {
             label(rt, b" Batched")?;
         }
         Err(e) => {

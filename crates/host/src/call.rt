@@ -3,7 +3,6 @@
 ghost use Rattle.std.specs.Prelude.{◌≤◌, length};
 ghost use Rattle.script.specs.Output.{Wrote};
 
-use types::error::ProducerError;
 use crate::arguments::{
     behind_message, error_at, name_bytes_at, receipt_at, sending_at, setting_at,
 };
@@ -17,6 +16,7 @@ use script::answer::{
 use script::read::{behind, i32_at, lent_of, u64_at, usize_at};
 use script::write::{put_i32, put_message_id, put_usize};
 use types::entry::OpSend;
+use types::error::ProducerError;
 use types::types::MessageId;
 
 // The state after an operation, and the place behind its answer.
@@ -116,7 +116,14 @@ fn call_receipt(
     }
 }
 
-fn put_error(out: &mut [u8], to: usize, code: u8, answer: Result<(), ProducerError>, error: i32, op: OpSend) -> usize
+fn put_error(
+    out: &mut [u8],
+    to: usize,
+    code: u8,
+    answer: Result<(), ProducerError>,
+    error: i32,
+    op: OpSend,
+) -> usize
     ensures { Wrote to out.old out.new result }
 {
     match answer {

@@ -6,7 +6,7 @@ use rules::numbers::at_most;
 use script::answer::{put_core, put_publish};
 use script::write::{put_bool, put_count32};
 use types::entry::Publish;
-use upkeep::pending::{locate};
+use upkeep::pending::locate;
 
 const CODE: u8 = 0x26;
 

@@ -19,7 +19,7 @@ use script::operation::STORE;
 use script::read::{behind, bytes_at, lent_of, u64_at, usize_at};
 use types::error::ProducerError;
 use types::types::ProducerHandle;
-use upkeep::pending::{locate};
+use upkeep::pending::locate;
 
 // How an operation is carried out.
 #[derive(Clone, Copy)]

@@ -3,7 +3,6 @@
 ghost use Rattle.std.specs.Prelude.{◌≤◌};
 ghost use Rattle.script.specs.Output.{Wrote};
 
-use types::error::ProducerError;
 use plans::delta::no_entry;
 use producer::state::ProducerState;
 use rules::numbers::at_most;
@@ -12,6 +11,7 @@ use script::read::{behind, u32_at, u64_at};
 use script::values::entry_at;
 use script::write::put_count32;
 use types::entry::OpSend;
+use types::error::ProducerError;
 use types::types::SequenceId;
 
 // A table, and how many of its entries count.

@@ -3,13 +3,13 @@ ghost use Rattle.std.specs.Prelude.{◌+◌, ◌-◌, ◌≤◌, length};
 ghost use Rattle.script.specs.Output.{Wrote};
 ghost use Rattle.host.specs.Framing.{Completes, taken};
 
-use types::error::ProducerError;
 use crate::call::Called;
 use producer::state::ProducerState;
 use rules::numbers::at_most;
 use script::answer::{put_command, put_metadata, put_refusal, put_status};
 use script::read::{behind, lent_of, u64_at, usize_at};
 use script::write::put_usize;
+use types::error::ProducerError;
 use types::outbound::OutboundFrame;
 
 pub(crate) const CODE: u8 = 0x04;

@@ -9,13 +9,13 @@ use crate::write::{
 };
 use plans::state::Core;
 use rules::numbers::at_most;
-use types::answer::{SendDecision};
+use types::answer::SendDecision;
 use types::batch::BatchContainer;
 use types::entry::{OpSend, Publish, Replay};
 use types::error::ProducerError;
 use types::frame::ProducerName;
 use types::message::OutgoingMessage;
-use types::outbound::{CommandSend, FrameName, MessageMetadata, UuidText};
+use types::outbound::{CommandSend, FrameName, MessageMetadata};
 use types::settings::{Limits, ProducerSettings};
 use types::stats::{Counters, ProducerStats, SequenceIds};
 
@@ -77,16 +77,21 @@ pub fn put_count(out: &mut [u8], at: usize, code: u8, o: Result<usize, ProducerE
     }
 }
 
-pub fn put_decision(out: &mut [u8], at: usize, code: u8, d: SendDecision) -> usize
+pub fn put_decision(
+    out: &mut [u8],
+    at: usize,
+    code: u8,
+    d: Result<SendDecision, ProducerError>,
+) -> usize
     ensures { Wrote at out.old out.new result }
 {
     match d {
-        SendDecision::Emit { count } => {
+        Ok(SendDecision::Emit { count }) => {
             let to = put_status(out, at, code, 0);
             let kind = put_u8(out, to, 1);
             put_usize(out, kind, count)
         }
-        SendDecision::Batched => {
+        Ok(SendDecision::Batched) => {
             let to = put_status(out, at, code, 0);
             put_u8(out, to, 0)
         }
@@ -305,15 +310,15 @@ fn put_frame_name(out: &mut [u8], at: usize, store: &[u8], name: FrameName) -> u
     }
 }
 
-fn put_uuid_text(out: &mut [u8], at: usize, uuid: UuidText) -> usize
+fn put_uuid_text(out: &mut [u8], at: usize, uuid: Option<[u8; 36]>) -> usize
     ensures { Wrote at out.old out.new result }
 {
-    let text = uuid.text;
-    if uuid.present {
-        let to = put_u8(out, at, 1);
-        put_bytes(out, to, &text)
-    } else {
-        put_u8(out, at, 0)
+    match uuid {
+        None => put_u8(out, at, 0),
+        Some(text) => {
+            let to = put_u8(out, at, 1);
+            put_bytes(out, to, &text)
+        }
     }
 }
 

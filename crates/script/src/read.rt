@@ -1,7 +1,7 @@
 // The bytes of a script (docs/SCRIPT.md, 'Numbers and values'). What does not lie within the script reads as zero.
-use types::message::{Part};
+use types::message::Part;
 use types::signed::signed_of;
-use types::txn::{TxnId};
+use types::txn::TxnId;
 use types::types::{MessageId, MessageIdData};
 
 // A place further on, as far as places go.

@@ -2,10 +2,10 @@
 // no room it writes nothing and gives the place itself.
 ghost use Rattle.script.specs.Output.{Wrote};
 
-use types::txn::TxnId;
-use types::message::{Part};
+use types::message::Part;
 use types::signed::bits_of;
-use types::types::{MessageId};
+use types::txn::TxnId;
+use types::types::MessageId;
 
 pub fn put_u8(out: &mut [u8], at: usize, v: u8) -> usize
     ensures { Wrote at out.old out.new result }

@@ -1,11 +1,11 @@
 // The frames are read back into messages, by their layout alone (document 01, 'How demand 3 is read').
-use types::txn::TxnId;
 use crate::fields::{Cursor, read_item};
 use crate::take::{Frame, Frames};
 use rules::batch::single_of;
 use rules::blank::no_message;
 use rules::numbers::{saturating_add, saturating_add_u64, saturating_sub};
 use types::message::{Part, SingleMessage};
+use types::txn::TxnId;
 
 #[derive(Clone, Copy)]
 pub struct Message {

@@ -1,9 +1,9 @@
 // Receipts come back (document 01, 'receipts, errors, snapshot, replay').
-use types::error::ProducerError;
 use crate::say::{self, Out};
 use crate::send::{Standing, say_pending, say_standing, standing_of};
 use producer::state::ProducerState;
 use types::command::CommandSendReceipt;
+use types::error::ProducerError;
 use types::signed::bits_of;
 use types::stats::ProducerStats;
 use types::types::{MessageId, MessageIdData, ProducerHandle, SequenceId};

@@ -1,10 +1,10 @@
 // The messages go to the queue (document 01, 'sends').
-use types::error::ProducerError;
 use crate::say::{self, Out};
 use crate::story;
 use producer::state::ProducerState;
 use rules::numbers::saturating_sub;
-use types::answer::{SendDecision};
+use types::answer::SendDecision;
+use types::error::ProducerError;
 use types::message::OutgoingMessage;
 
 // For the chunks.
@@ -16,16 +16,16 @@ const UUID: [u8; 16] = [
 const NOW: u64 = 1_700_000_000_500;
 
 // A send that pushes more frames than its message has flushes the waiting batch.
-fn decision(out: &mut Out, d: SendDecision, pushed: usize) {
+fn decision(out: &mut Out, d: Result<SendDecision, ProducerError>, pushed: usize) {
     match d {
-        SendDecision::Emit { count } => {
+        Ok(SendDecision::Emit { count }) => {
             if count < pushed {
                 say::text(out, b"flushes the batch and ");
             }
             say::text(out, b"goes out in ");
             say::count(out, count as u64, b" frame", b" frames");
         }
-        SendDecision::Batched => {
+        Ok(SendDecision::Batched) => {
             say::text(out, b"joins the batch");
         }
         Err(e) => {
@@ -60,7 +60,13 @@ pub fn say_standing(out: &mut Out, t: Standing) {
     say_pending(out, t);
 }
 
-fn say_sent(out: &mut Out, len: usize, answer: SendDecision, before: Standing, after: Standing) {
+fn say_sent(
+    out: &mut Out,
+    len: usize,
+    answer: Result<SendDecision, ProducerError>,
+    before: Standing,
+    after: Standing,
+) {
     say::text(out, b" of ");
     say::count(out, len as u64, b" byte: ", b" bytes: ");
     decision(out, answer, saturating_sub(after.waiting, before.waiting));

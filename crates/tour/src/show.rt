@@ -1,11 +1,10 @@
 // Frames and messages in words.
-use types::txn::TxnId;
-use types::message::Part;
 use crate::parts::bytes_at;
 use crate::say::{self, Out};
 use rules::numbers::saturating_add_u64;
-use types::message::{SingleMessage};
-use types::outbound::{MessageMetadata, OutboundFrame, UuidText};
+use types::message::{Part, SingleMessage};
+use types::outbound::{MessageMetadata, OutboundFrame};
+use types::txn::TxnId;
 use types::types::SequenceId;
 
 fn number(out: &mut Out, before: &[u8], n: Option<u64>) {
@@ -61,9 +60,8 @@ fn transaction(out: &mut Out, t: Option<TxnId>) {
     }
 }
 
-fn uuid(out: &mut Out, u: UuidText) {
-    let text = u.text;
-    if u.present {
+fn uuid(out: &mut Out, u: Option<[u8; 36]>) {
+    if let Some(text) = u {
         say::text(out, b", uuid ");
         say::text(out, &text);
     }

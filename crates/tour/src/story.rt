@@ -5,7 +5,7 @@ use rules::blank::no_message;
 use rules::numbers::saturating_add;
 use types::message::{OutgoingMessage, Part};
 use types::settings::Setting;
-use types::txn::{TxnId};
+use types::txn::TxnId;
 use types::types::{MessageId, ProducerHandle};
 
 // How many messages there are. They are numbered from 1, as their sequence ids are.

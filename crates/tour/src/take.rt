@@ -1,6 +1,4 @@
 // The frames are taken from the front, and kept.
-use types::txn::TxnId;
-use types::error::ProducerError;
 use crate::parts::bytes_at;
 use crate::say::{self, Out};
 use crate::show;
@@ -8,8 +6,10 @@ use producer::state::ProducerState;
 use rules::batch::single_of;
 use rules::blank::no_message;
 use rules::numbers::{at_most, saturating_add};
+use types::error::ProducerError;
 use types::message::{Part, SingleMessage};
 use types::outbound::{MessageMetadata, OutboundFrame};
+use types::txn::TxnId;
 
 // A frame as it goes over the wire: payload and keys are parts of the bytes taken, and nothing of the store is in it.
 #[derive(Clone, Copy)]

@@ -2,8 +2,8 @@
 use Rattle.script.proofs.Outputs.{next}
 use Rattle.script.proofs.answer.put_decision.Goals as goal
 
-pub returns-in-Emit : goal.returns-in-Emit
-returns-in-Emit c = search next
+pub returns-in-Ok-Emit : goal.returns-in-Ok-Emit
+returns-in-Ok-Emit c = search next
 
-pub returns-in-Batched : goal.returns-in-Batched
-returns-in-Batched c = search next
+pub returns-in-Ok-Batched : goal.returns-in-Ok-Batched
+returns-in-Ok-Batched c = search next

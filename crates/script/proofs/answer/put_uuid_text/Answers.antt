@@ -2,5 +2,5 @@
 use Rattle.script.proofs.Outputs.{next}
 use Rattle.script.proofs.answer.put_uuid_text.Goals as goal
 
-pub returns-then-uuid : goal.returns-then-uuid
-returns-then-uuid c = search next
+pub returns-in-Some : goal.returns-in-Some
+returns-in-Some c = search next
