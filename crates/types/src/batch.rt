@@ -7,7 +7,7 @@ use crate::types::SequenceId;
 
 // The messages that joined since the last flush. They are the last `len` of those held; while there is none the other fields
 // mean nothing.
-#[derive(Clone, Copy)]
+#[derive(Clone, Copy, PartialEq, Eq)]
 pub struct BatchContainer {
     pub len: usize,
     // Sum of the payload lengths.

@@ -1,7 +1,7 @@
 // What the broker sends back of a publish.
 use crate::types::{MessageIdData, ProducerHandle, SequenceId};
 
-#[derive(Clone, Copy)]
+#[derive(Clone, Copy, PartialEq, Eq)]
 pub struct CommandSendReceipt {
     pub producer_id: ProducerHandle,
     pub sequence_id: SequenceId,
@@ -9,7 +9,7 @@ pub struct CommandSendReceipt {
 }
 
 // The error's text is left out.
-#[derive(Clone, Copy)]
+#[derive(Clone, Copy, PartialEq, Eq)]
 pub struct CommandSendError {
     pub producer_id: ProducerHandle,
     pub sequence_id: SequenceId,

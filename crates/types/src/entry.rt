@@ -5,7 +5,7 @@ use crate::message::OutgoingMessage;
 use crate::types::SequenceId;
 
 // What a replay pushes again.
-#[derive(Clone, Copy)]
+#[derive(Clone, Copy, PartialEq, Eq)]
 pub enum Replay {
     // Nothing: one frame carries a whole batch.
     Batched,
@@ -18,7 +18,7 @@ pub enum Replay {
 }
 
 // A send as it was accepted.
-#[derive(Clone, Copy)]
+#[derive(Clone, Copy, PartialEq, Eq)]
 pub struct Publish {
     pub num_messages: i32,
     pub enqueued_at: u64,
@@ -31,7 +31,7 @@ pub struct Publish {
 }
 
 // A pending entry.
-#[derive(Clone, Copy)]
+#[derive(Clone, Copy, PartialEq, Eq)]
 pub struct OpSend {
     pub sequence_id: SequenceId,
     // Whether this entry keeps its id in `pending_index`.

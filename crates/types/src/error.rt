@@ -3,7 +3,7 @@ ghost use Rattle.std.specs.Prelude.{◌≡◌};
 ghost use Rattle.types.specs.Refusals.{number_of};
 
 // Why a call was refused. The table 'Who can cause a refusal' numbers them from 1 in this order.
-#[derive(Clone, Copy)]
+#[derive(Clone, Copy, PartialEq, Eq)]
 pub enum ProducerError {
     // The producer is closed.
     Closed,

@@ -4,14 +4,14 @@ use crate::txn::TxnId;
 use crate::types::SequenceId;
 
 // A producer's name: the first `len` of the bytes.
-#[derive(Clone, Copy)]
+#[derive(Clone, Copy, PartialEq, Eq)]
 pub struct ProducerName {
     pub bytes: [u8; 64],
     pub len: usize,
 }
 
 // What a batch frame has of its own. Its messages are held apart from it.
-#[derive(Clone, Copy)]
+#[derive(Clone, Copy, PartialEq, Eq)]
 pub struct BatchFrame {
     pub num_messages: usize,
     // Sum of the payload lengths.
@@ -21,7 +21,7 @@ pub struct BatchFrame {
 }
 
 // How a message was cut, and which of its chunks waits next.
-#[derive(Clone, Copy)]
+#[derive(Clone, Copy, PartialEq, Eq)]
 pub struct ChunkedMessageContext {
     pub total_chunks: u32,
     pub next_chunk: u32,
@@ -29,7 +29,7 @@ pub struct ChunkedMessageContext {
     pub max_chunk_size: u32,
 }
 
-#[derive(Clone, Copy)]
+#[derive(Clone, Copy, PartialEq, Eq)]
 pub enum FrameKind {
     Single,
     Batch(BatchFrame),
@@ -38,7 +38,7 @@ pub enum FrameKind {
 
 // A waiting frame, or the waiting chunks of one message, with what its command and metadata need. Of a batch the message
 // means nothing.
-#[derive(Clone, Copy)]
+#[derive(Clone, Copy, PartialEq, Eq)]
 pub struct FrameRecord {
     pub sequence_id: SequenceId,
     pub publish_time: u64,

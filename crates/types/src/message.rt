@@ -3,13 +3,13 @@ use crate::txn::TxnId;
 use crate::types::MessageId;
 
 // A start and a length in the store.
-#[derive(Clone, Copy)]
+#[derive(Clone, Copy, PartialEq, Eq)]
 pub struct Part {
     pub start: usize,
     pub len: usize,
 }
 
-#[derive(Clone, Copy)]
+#[derive(Clone, Copy, PartialEq, Eq)]
 pub struct OutgoingMessage {
     pub payload: Part,
     pub partition_key: Option<Part>,
@@ -32,7 +32,7 @@ pub struct OutgoingMessage {
 }
 
 // What a batch keeps of a message.
-#[derive(Clone, Copy)]
+#[derive(Clone, Copy, PartialEq, Eq)]
 pub struct SingleMessage {
     pub payload: Part,
     pub partition_key: Option<Part>,

@@ -4,7 +4,7 @@ use crate::message::Part;
 use crate::txn::TxnId;
 use crate::types::{MessageId, ProducerHandle, SequenceId};
 
-#[derive(Clone, Copy)]
+#[derive(Clone, Copy, PartialEq, Eq)]
 pub struct CommandSend {
     pub producer_id: ProducerHandle,
     pub sequence_id: SequenceId,
@@ -16,13 +16,13 @@ pub struct CommandSend {
 }
 
 // The message's own name, a part of the store; the producer's where that is empty.
-#[derive(Clone, Copy)]
+#[derive(Clone, Copy, PartialEq, Eq)]
 pub struct FrameName {
     pub own: Part,
     pub producer: ProducerName,
 }
 
-#[derive(Clone, Copy)]
+#[derive(Clone, Copy, PartialEq, Eq)]
 pub struct MessageMetadata {
     pub producer_name: FrameName,
     pub sequence_id: SequenceId,
@@ -47,7 +47,7 @@ pub struct MessageMetadata {
 }
 
 // The payload is the first `payload_len` bytes of the buffer.
-#[derive(Clone, Copy)]
+#[derive(Clone, Copy, PartialEq, Eq)]
 pub struct OutboundFrame {
     pub command: CommandSend,
     pub metadata: MessageMetadata,

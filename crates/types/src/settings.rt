@@ -1,7 +1,7 @@
 // What the owner of a producer sets.
 use crate::frame::ProducerName;
 
-#[derive(Clone, Copy)]
+#[derive(Clone, Copy, PartialEq, Eq)]
 pub struct Limits {
     // Payload length above which a message is chunked or refused.
     pub max_message_size: usize,
@@ -9,7 +9,7 @@ pub struct Limits {
     pub max_messages_in_batch: usize,
 }
 
-#[derive(Clone, Copy)]
+#[derive(Clone, Copy, PartialEq, Eq)]
 pub struct Switches {
     pub batching_enabled: bool,
     pub chunking_enabled: bool,
@@ -19,13 +19,13 @@ pub struct Switches {
 }
 
 // In milliseconds.
-#[derive(Clone, Copy)]
+#[derive(Clone, Copy, PartialEq, Eq)]
 pub struct Delays {
     pub send_timeout: Option<u64>,
     pub batching_max_publish_delay: Option<u64>,
 }
 
-#[derive(Clone, Copy)]
+#[derive(Clone, Copy, PartialEq, Eq)]
 pub struct ProducerSettings {
     pub name: ProducerName,
     pub limits: Limits,
@@ -34,7 +34,7 @@ pub struct ProducerSettings {
 }
 
 // One setting, as the call that sets it names it. The name and closing have calls of their own.
-#[derive(Clone, Copy)]
+#[derive(Clone, Copy, PartialEq, Eq)]
 pub enum Setting {
     MaxMessageSize(usize),
     MaxBatchSizeBytes(usize),

@@ -1,6 +1,6 @@
 // The numbers that a producer counts with.
 
-#[derive(Clone, Copy)]
+#[derive(Clone, Copy, PartialEq, Eq)]
 pub struct SequenceIds {
     pub next_sequence_id: u64,
     pub last_sequence_id_pushed: i64,
@@ -8,7 +8,7 @@ pub struct SequenceIds {
 }
 
 // Each stops at 2^64 - 1.
-#[derive(Clone, Copy)]
+#[derive(Clone, Copy, PartialEq, Eq)]
 pub struct Counters {
     pub total_msgs_sent: u64,
     pub total_bytes_sent: u64,
@@ -16,7 +16,7 @@ pub struct Counters {
     pub total_acks_received: u64,
 }
 
-#[derive(Clone, Copy)]
+#[derive(Clone, Copy, PartialEq, Eq)]
 pub struct ProducerStats {
     pub counters: Counters,
     pub pending_queue_size: u64,

@@ -1,5 +1,5 @@
 // A transaction id.
-#[derive(Clone, Copy)]
+#[derive(Clone, Copy, PartialEq, Eq)]
 pub struct TxnId {
     // Most often the transaction coordinator.
     pub most_sig_bits: u64,

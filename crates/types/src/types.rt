@@ -3,15 +3,15 @@ ghost use Rattle.std.specs.Prelude.{◌≡◌};
 ghost use Rattle.types.specs.Ids.{from_pb, of_receipt, or_minus_one};
 
 // A producer id, which the connection gives out.
-#[derive(Clone, Copy)]
+#[derive(Clone, Copy, PartialEq, Eq)]
 pub struct ProducerHandle(pub u64);
 
 // The number of a publish, which its receipt names.
-#[derive(Clone, Copy)]
+#[derive(Clone, Copy, PartialEq, Eq)]
 pub struct SequenceId(pub u64);
 
 // Where a message is stored.
-#[derive(Clone, Copy)]
+#[derive(Clone, Copy, PartialEq, Eq)]
 pub struct MessageId {
     pub ledger_id: u64,
     pub entry_id: u64,
@@ -21,7 +21,7 @@ pub struct MessageId {
 }
 
 // A message id as the protocol has it.
-#[derive(Clone, Copy)]
+#[derive(Clone, Copy, PartialEq, Eq)]
 pub struct MessageIdData {
     pub ledger_id: u64,
     pub entry_id: u64,

@@ -1,6 +1,6 @@
 // What a send does with its message, decided before anything changes.
 
-#[derive(Clone, Copy)]
+#[derive(Clone, Copy, PartialEq, Eq)]
 pub enum Way {
     // Over the limit with chunking off; whether the waiting batch is flushed all the same.
     TooLarge {
