@@ -1,20 +1,82 @@
 // The rings of the state: where they begin, how long they are, and the places in them.
-ghost use Rattle.std.specs.Prelude.{◌≡◌, ◌&&◌, ◌+◌, ◌<◌, ◌≤◌, min, ltb};
-ghost use Rattle.rules.specs.Rings.{capacity_of, place_of, place_before, head_after};
+ghost use Rattle.std.specs.Prelude.{◌≡◌, ◌+◌, ◌<◌, min, ltb};
+ghost use Rattle.laws.specs.Ring.{slot};
+ghost use Rattle.rules.specs.Rings.{place_behind, place_before, longer_behind, longer_before, head_after};
 
-use crate::numbers::at_most;
+// A ring of N slots. Any numbers will do: the head is read as `head % N`, the length as `min(len, N)`.
+#[derive(Clone, Copy, PartialEq, Eq)]
+pub struct Ring<const N: usize> {
+    pub head: usize,
+    pub len: usize,
+}
 
-// Any numbers will do: a head is read as `head % N`, a length as `min(len, N)`.
-#[derive(Clone, Copy)]
+impl<const N: usize> Ring<N> {
+    // The slot so many places on from the head.
+    pub fn slot(self, i: usize) -> usize
+        requires { i < N }
+        ensures { result ≡ slot N self.entry.head i }
+    {
+        let head = self.head % N;
+        let rest = N - head;
+        if i < rest { head + i } else { i - rest }
+    }
+
+    // The place behind the last record; a full ring has none.
+    pub fn place_behind(self) -> Option<usize>
+        ensures { result ≡ place_behind N self.entry }
+    {
+        if self.len < N {
+            Some(self.slot(self.len))
+        } else {
+            None
+        }
+    }
+
+    // With a record there. A full ring stays.
+    pub fn longer_behind(self) -> Self
+        ensures { result ≡ longer_behind N self.entry }
+    {
+        match self.place_behind() {
+            Some(_) => Ring {
+                len: self.len + 1,
+                ..self
+            },
+            None => self,
+        }
+    }
+
+    // The place before the first record; a full ring has none.
+    pub fn place_before(self) -> Option<usize>
+        ensures { result ≡ place_before N self.entry }
+    {
+        if self.len < N {
+            Some(self.slot(N - 1))
+        } else {
+            None
+        }
+    }
+
+    // With a record there. A full ring stays.
+    pub fn longer_before(self) -> Self
+        ensures { result ≡ longer_before N self.entry }
+    {
+        match self.place_before() {
+            Some(at) => Ring {
+                head: at,
+                len: self.len + 1,
+            },
+            None => self,
+        }
+    }
+}
+
+#[derive(Clone, Copy, PartialEq, Eq)]
 pub struct Rings {
-    pub outbound_head: usize,
-    pub outbound_len: usize,
+    pub outbound: Ring<{ Rings::OUTBOUND }>,
     // The waiting frames, chunks counted singly.
     pub waiting: usize,
-    pub held_head: usize,
-    pub held_len: usize,
-    pub pending_head: usize,
-    pub pending_len: usize,
+    pub held: Ring<{ Rings::HELD }>,
+    pub pending: Ring<{ Rings::PENDING }>,
 }
 
 impl Rings {
@@ -23,92 +85,6 @@ impl Rings {
     pub const HELD: usize = 512;
 
     pub const PENDING: usize = 256;
-}
-
-#[derive(Clone, Copy)]
-pub enum Ring {
-    Outbound,
-    Held,
-    Pending,
-}
-
-fn capacity(ring: Ring) -> usize
-    ensures value { result ≡ capacity_of ring }
-    ensures result_nonzero { (0 < result) × (result ≤ 1024) }
-{
-    match ring {
-        Ring::Outbound => Rings::OUTBOUND,
-        Ring::Held => Rings::HELD,
-        Ring::Pending => Rings::PENDING,
-    }
-}
-
-// Where a record goes behind the last of a ring, and the ring's length then.
-#[derive(Clone, Copy)]
-pub struct Place {
-    pub put: bool,
-    pub at: usize,
-    pub len: usize,
-}
-
-// A full ring stays as it is.
-pub fn place_of(ring: Ring, head: usize, len: usize) -> Place
-    ensures { result ≡ place_of (capacity_of ring) head len }
-{
-    let cap = capacity(ring);
-    let n = at_most(len, cap);
-    let at = (head % cap + n) % cap;
-    if len < cap {
-        Place {
-            put: true,
-            at: at,
-            len: len + 1,
-        }
-    } else {
-        Place {
-            put: false,
-            at: at,
-            len: len,
-        }
-    }
-}
-
-// Where a record goes before the first of a ring, and where the ring begins and how long it is then.
-#[derive(Clone, Copy)]
-pub struct FrontPlace {
-    pub put: bool,
-    pub at: usize,
-    pub head: usize,
-    pub len: usize,
-}
-
-fn has_place(asked: bool, len: usize, cap: usize) -> bool
-    ensures { result ≡ (asked && ltb len cap) }
-{
-    asked & (len < cap)
-}
-
-// A full ring stays as it is, and so does one before which nothing is asked for.
-pub fn place_before(asked: bool, ring: Ring, head: usize, len: usize) -> FrontPlace
-    ensures { result ≡ place_before asked (capacity_of ring) head len }
-{
-    let cap = capacity(ring);
-    let at = (head % cap + (cap - 1)) % cap;
-    if has_place(asked, len, cap) {
-        FrontPlace {
-            put: true,
-            at: at,
-            head: at,
-            len: len + 1,
-        }
-    } else {
-        FrontPlace {
-            put: false,
-            at: at,
-            head: head,
-            len: len,
-        }
-    }
 }
 
 // Where the pending ring begins once the entry at this place has left.
@@ -127,8 +103,7 @@ pub fn too_many(waiting: usize, frames: usize) -> bool
     ensures { result ≡ ltb 1024 (waiting + frames) }
 {
     if frames <= Rings::OUTBOUND {
-        let room = Rings::OUTBOUND - frames;
-        room < waiting
+        Rings::OUTBOUND - frames < waiting
     } else {
         true
     }
@@ -138,10 +113,8 @@ pub fn too_many(waiting: usize, frames: usize) -> bool
 pub fn too_many_pending(pending: usize, entries: usize) -> bool
     ensures { result ≡ ltb 256 (entries + min pending 256) }
 {
-    let n = at_most(pending, Rings::PENDING);
     if entries <= Rings::PENDING {
-        let room = Rings::PENDING - entries;
-        room < n
+        Rings::PENDING - entries < pending.min(Rings::PENDING)
     } else {
         true
     }
