@@ -66,8 +66,8 @@ goes c r s count room p e d = subst (λ (q : TakePlan). q.done ≡ true → Goes
   where
     planned : (take_planned c r s count room).done ≡ true → Goes s room (take_planned c r s count room)
     planned t =
-        let o = answer_of c.rings.outbound_len s room in
-        let h = passes (eqb c.rings.outbound_len 0) s.inside (ltb room s.len) t in
+        let o = answer_of c.rings.outbound.len s room in
+        let h = passes (eqb c.rings.outbound.len 0) s.inside (ltb room s.len) t in
         let f : s.len ≤ room = ltb-false room s.len h.long in
         record {
           inside = h.within;

@@ -21,7 +21,7 @@ fn put_scalars(s: ProducerState, out: &mut [u8], to: usize, n: usize) -> usize
     ensures { Wrote to out.old out.new result }
 {
     let c = s.core;
-    let head = s.core.rings.pending_head % 256;
+    let head = s.core.rings.pending.head % 256;
     let front = s.pending[head];
     let scalars = put_core(out, to, CODE, c, front.enqueued_at);
     put_count32(out, scalars, n)
@@ -78,8 +78,8 @@ fn answerable(ids: [u64; 256], marks: [u8; 256], head: usize, n: usize) -> [u8; 
 pub fn put_dump(s: ProducerState, out: &mut [u8], to: usize) -> usize
     ensures { Wrote to out.old out.new result }
 {
-    let head = s.core.rings.pending_head;
-    let n = at_most(s.core.rings.pending_len, 256);
+    let head = s.core.rings.pending.head;
+    let n = at_most(s.core.rings.pending.len, 256);
     let pending = s.pending;
     let ids = s.pending_ids;
     let kept = s.pending_marks;

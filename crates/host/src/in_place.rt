@@ -116,15 +116,15 @@ pub(crate) fn run_in_place(script: &[u8], store_len: usize, handle: u64, out: &m
                 c = core;
             }
             Drive::Take => {
-                let front_at = c.rings.outbound_head % 1024;
+                let front_at = c.rings.outbound.head % 1024;
                 let front = s.outbound[front_at];
                 let kind = front.kind;
                 if is_batch(kind) {
                     let lent = lent_of(store, u64_at(script, behind(at, 9)));
                     let start = up_to(out.len(), to, 10);
                     let end = up_to(out.len(), start, usize_at(script, behind(at, 1)));
-                    let first = c.rings.held_head;
-                    let count = held_count(kind, c.rings.held_len);
+                    let first = c.rings.held.head;
+                    let count = held_count(kind, c.rings.held.len);
                     let mut span = empty_span();
                     let mut i: usize = 0;
                     while i < count {
@@ -164,8 +164,8 @@ pub(crate) fn run_in_place(script: &[u8], store_len: usize, handle: u64, out: &m
             }
             Drive::Settle => {
                 let id = u64_at(script, behind(at, 9));
-                let head = c.rings.pending_head;
-                let len = c.rings.pending_len;
+                let head = c.rings.pending.head;
+                let len = c.rings.pending.len;
                 let found = locate(&s.pending_ids, &s.pending_marks, head, len, id);
                 match found {
                     Some(i) => {
@@ -205,8 +205,8 @@ pub(crate) fn run_in_place(script: &[u8], store_len: usize, handle: u64, out: &m
                         let published = settled_ids(ids, code, id);
                         c.ids = published;
                         let head_then = head_after(head, i);
-                        c.rings.pending_head = head_then;
-                        c.rings.pending_len = left;
+                        c.rings.pending.head = head_then;
+                        c.rings.pending.len = left;
                     }
                     None => {
                         to = put_refusal(out, to, code, ProducerError::NotAnswerable);
@@ -214,7 +214,7 @@ pub(crate) fn run_in_place(script: &[u8], store_len: usize, handle: u64, out: &m
                 }
             }
             Drive::Scalars => {
-                let front_at = c.rings.pending_head % 256;
+                let front_at = c.rings.pending.head % 256;
                 let publish = s.pending[front_at];
                 let p = plan(c, publish.enqueued_at, script, at, code, out, to);
                 let core = p.core;

@@ -105,7 +105,7 @@ fn plan_query(
         }
         _ => {
             let counters = c.counters;
-            put_stats(out, to, code, stats_of(counters, c.rings.pending_len))
+            put_stats(out, to, code, stats_of(counters, c.rings.pending.len))
         }
     }
 }

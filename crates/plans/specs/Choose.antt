@@ -12,8 +12,8 @@ use Rattle.types.specs.declared.error.ProducerError.{ProducerError}
 abbrev pub allowed_way : Way → Core → Result Way ProducerError
 allowed_way w c =
     pick (nat_lt 1024 (c.rings.waiting + pushes w)) (Err OutboundFull)
-    (pick (joins w && nat_le 512 (min c.rings.held_len 512)) (Err HeldFull)
-    (pick (not (is_too_large w) && nat_le 256 (min c.rings.pending_len 256)) (Err PendingFull)
+    (pick (joins w && nat_le 512 (min c.rings.held.len 512)) (Err HeldFull)
+    (pick (not (is_too_large w) && nat_le 256 (min c.rings.pending.len 256)) (Err PendingFull)
     (Ok w)))
 
 unfoldable pub chosen_within : OutgoingMessage → Core → Result Way ProducerError

@@ -6,7 +6,7 @@ use Rattle.plans.specs.declared.state.Core.{Core}
 use Rattle.plans.specs.State.{core_ids}
 
 abbrev pub send_deadline_of : Core → ℕ → Option ℕ
-send_deadline_of c enqueuedAt = unless_none c.rings.pending_len (maybe_after c.settings.delays.send_timeout enqueuedAt)
+send_deadline_of c enqueuedAt = unless_none c.rings.pending.len (maybe_after c.settings.delays.send_timeout enqueuedAt)
 
 abbrev pub batch_deadline_of : Core → Option ℕ
 batch_deadline_of c = unless_none c.batch.len (maybe_after c.settings.delays.batching_max_publish_delay c.batch.first_added_at)

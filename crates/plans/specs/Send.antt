@@ -1,5 +1,5 @@
 -- What the plans of a send answer. The definition goes by the queue, these by the scalars and the records that are stored.
-use Rattle.std.specs.Prelude.{ℕ, ◌*◌, min, Bool, ℤ, pos, Err, Ok, Result}
+use Rattle.std.specs.Prelude.{ℕ, ◌*◌, min, Bool, ℤ, pos, Err, Ok, Result, Option, None}
 use Rattle.types.specs.declared.answer.SendDecision.TheVariants.{Emit, Batched}
 use Rattle.types.specs.declared.entry.Publish.{Publish}
 use Rattle.types.specs.declared.entry.Replay.{Replay}
@@ -13,13 +13,13 @@ use Rattle.types.specs.declared.way.Way.{Way}
 use Rattle.types.specs.declared.way.Way.TheVariants.{TooLarge, Join, Single, Chunked}
 use Rattle.queue.specs.Batch.{at_least_one, grown, single_of, is_full}
 use Rattle.plans.specs.declared.state.Core.{Core}
-use Rattle.plans.specs.declared.delta.FramePut.{FramePut}
+use Rattle.plans.specs.declared.delta.Put.{Put}
 use Rattle.plans.specs.declared.delta.Pushed.{Pushed}
 use Rattle.plans.specs.declared.delta.SendDelta.{SendDelta}
 use Rattle.plans.specs.declared.send.Sending.{Sending}
 use Rattle.plans.specs.declared.send.Emitted.{Emitted}
 use Rattle.plans.specs.declared.send.Joined.{Joined}
-use Rattle.plans.specs.Delta.{no_frame, no_entry, no_held, core_batch, counted_core, pushed, accepted, held}
+use Rattle.plans.specs.Delta.{core_batch, counted_core, pushed, accepted, held}
 use Rattle.plans.specs.Batch.{flushed_if}
 use Rattle.plans.specs.Choose.{chosen}
 
@@ -54,7 +54,7 @@ abbrev pub emitted : Publish → FrameKind → ℕ → ℕ → ℕ → Core → 
 emitted p k frames messages bytes c =
     let e = accepted p c in
     let f = pushed (frame_of c.ids.next_sequence_id p k) frames (counted_core messages bytes e.core) in
-    record { core = f.core; frame = f.frame; entry = e.entry }
+    record { core = f.core; frame = f.put; entry = e.put }
 
 abbrev pub singled : Sending → Core → Emitted
 singled a c =
@@ -67,8 +67,8 @@ joined a c =
     let h = held (single_of a.message) e.core in
     record {
       core = core_batch (grown a.message c.ids.next_sequence_id a.now c.batch) h.core;
-      entry = e.entry;
-      held = h.held;
+      entry = e.put;
+      held = h.put;
     }
 
 abbrev pub chunked : Sending → ℕ → ℕ → Core → Emitted
@@ -80,7 +80,7 @@ chunked a size count c =
 -- ── after the flush before ──
 
 abbrev pub refused_by : ProducerError → Core → SendDelta
-refused_by e c = record { answer = Err e; core = c; first = no_frame; second = no_frame; entry = no_entry; held = no_held }
+refused_by e c = record { answer = Err e; core = c; first = None; second = None; entry = None; held = None }
 
 abbrev pub refused_large : Bool → Sending → Core → SendDelta
 refused_large before a c =
@@ -88,14 +88,14 @@ refused_large before a c =
     record {
       answer = Err (MessageTooLarge a.message.payload.len c.settings.limits.max_message_size);
       core = f.core;
-      first = f.frame;
-      second = no_frame;
-      entry = no_entry;
-      held = no_held;
+      first = f.put;
+      second = None;
+      entry = None;
+      held = None;
     }
 
 -- the batch is flushed again where the message has filled it
-abbrev pub flushed_full : ℕ → Core → Pushed
+abbrev pub flushed_full : ℕ → Core → Pushed FrameRecord
 flushed_full publish_time c = flushed_if (is_full c.settings c.batch.len c.batch.current_size_bytes) publish_time c
 
 abbrev pub joined_after : Bool → Sending → Core → SendDelta
@@ -103,20 +103,20 @@ joined_after before a c =
     let f = flushed_if before a.publish_time c in
     let j = joined a f.core in
     let g = flushed_full a.publish_time j.core in
-    record { answer = Ok Batched; core = g.core; first = f.frame; second = g.frame; entry = j.entry; held = j.held }
+    record { answer = Ok Batched; core = g.core; first = f.put; second = g.put; entry = j.entry; held = j.held }
 
-abbrev pub emitted_after : FramePut → Emitted → ℕ → SendDelta
-emitted_after first e count = record { answer = Ok (Emit count); core = e.core; first = first; second = e.frame; entry = e.entry; held = no_held }
+abbrev pub emitted_after : Option (Put FrameRecord) → Emitted → ℕ → SendDelta
+emitted_after first e count = record { answer = Ok (Emit count); core = e.core; first = first; second = e.frame; entry = e.entry; held = None }
 
 abbrev pub singled_after : Bool → Sending → Core → SendDelta
 singled_after before a c =
     let f = flushed_if before a.publish_time c in
-    emitted_after f.frame (singled a f.core) 1
+    emitted_after f.put (singled a f.core) 1
 
 abbrev pub chunked_after : Bool → Sending → ℕ → ℕ → Core → SendDelta
 chunked_after before a size count c =
     let f = flushed_if before a.publish_time c in
-    emitted_after f.frame (chunked a size count f.core) count
+    emitted_after f.put (chunked a size count f.core) count
 
 unfoldable pub followed : Way → Sending → Core → SendDelta
 followed (TooLarge before) a c = refused_large before a c

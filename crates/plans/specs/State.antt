@@ -9,17 +9,22 @@ use Rattle.plans.specs.declared.state.Core.{Core}
 
 abbrev pub new_rings : Rings
 new_rings =
-    record { outbound_head = 0; outbound_len = 0; waiting = 0; held_head = 0; held_len = 0; pending_head = 0; pending_len = 0 }
+    record {
+      outbound = record { head = 0; len = 0 };
+      waiting = 0;
+      held = record { head = 0; len = 0 };
+      pending = record { head = 0; len = 0 };
+    }
 
 abbrev pub new_core : ProducerHandle → Core
 new_core handle =
     record { handle = handle; settings = new_settings; ids = new_ids; counters = new_counters; batch = empty_batch; rings = new_rings }
 
 abbrev pub core_settings : ProducerSettings → Core → Core
-core_settings t c = record { handle = c.handle; settings = t; ids = c.ids; counters = c.counters; batch = c.batch; rings = c.rings }
+core_settings t c = record c { settings = t }
 
 abbrev pub core_ids : SequenceIds → Core → Core
-core_ids i c = record { handle = c.handle; settings = c.settings; ids = i; counters = c.counters; batch = c.batch; rings = c.rings }
+core_ids i c = record c { ids = i }
 
 abbrev pub core_rings : Rings → Core → Core
-core_rings r c = record { handle = c.handle; settings = c.settings; ids = c.ids; counters = c.counters; batch = c.batch; rings = r }
+core_rings r c = record c { rings = r }

@@ -16,23 +16,20 @@ use Rattle.types.specs.declared.error.ProducerError.{ProducerError}
 abbrev pub out_rings : ℕ → ℕ → ℕ → ℕ → ℕ → Rings → Rings
 out_rings head len waiting heldHead heldLen r =
     record {
-      outbound_head = head;
-      outbound_len = len;
+      outbound = record { head = head; len = len };
       waiting = waiting;
-      held_head = heldHead;
-      held_len = heldLen;
-      pending_head = r.pending_head;
-      pending_len = r.pending_len;
+      held = record { head = heldHead; len = heldLen };
+      pending = r.pending;
     }
 
 abbrev pub rings_taken : Bool → ℕ → Rings → Rings
 rings_taken stays count r =
     out_rings
-    (pick stays r.outbound_head ((r.outbound_head % 1024 + 1) % 1024))
-    (pick stays r.outbound_len (min r.outbound_len 1024 - 1))
+    (pick stays r.outbound.head ((r.outbound.head % 1024 + 1) % 1024))
+    (pick stays r.outbound.len (min r.outbound.len 1024 - 1))
     (r.waiting - 1)
-    ((r.held_head % 512 + min count 512) % 512)
-    (min r.held_len 512 - count)
+    ((r.held.head % 512 + min count 512) % 512)
+    (min r.held.len 512 - count)
     r
 
 abbrev pub core_taken : Bool → ℕ → Core → Core
@@ -43,5 +40,5 @@ plan_with answer core r frame = record { answer = answer; done = is_done answer;
 
 abbrev pub take_planned : Core → FrameRecord → Span → ℕ → ℕ → TakePlan
 take_planned c r s count room =
-    plan_with (answer_of c.rings.outbound_len s room) (core_taken (stays_of r.kind) count c) (record_after r r.kind)
+    plan_with (answer_of c.rings.outbound.len s room) (core_taken (stays_of r.kind) count c) (record_after r r.kind)
     (frame_out c.handle r r.kind s.len)

@@ -3,7 +3,7 @@ ghost use Rattle.std.specs.Prelude.{◌≡◌};
 ghost use Rattle.queue.specs.Batch.{can_add_to_batch, may_join, is_full, batch_record};
 ghost use Rattle.plans.specs.Batch.{flushed_core, flushed_if, flush_answer, flush_planned};
 
-use crate::delta::{FlushDelta, Pushed, no_frame};
+use crate::delta::{FlushDelta, Pushed};
 use crate::state::Core;
 use rules::batch::{can_add, is_batchable, makes_frame};
 use rules::blank::no_message;
@@ -17,9 +17,7 @@ impl Core {
     pub fn can_add_to_batch(self, payload_size: usize, num_messages: i32) -> bool
         ensures { result ≡ can_add_to_batch self.settings self.batch payload_size num_messages }
     {
-        let settings = self.settings;
-        let batch = self.batch;
-        can_add(settings, batch, payload_size, num_messages)
+        can_add(self.settings, self.batch, payload_size, num_messages)
     }
 
     pub fn may_join(self, m: OutgoingMessage) -> bool
@@ -40,61 +38,52 @@ impl Core {
     pub fn batch_record(self, publish_time: u64) -> FrameRecord
         ensures { result ≡ batch_record self.settings publish_time self.batch }
     {
-        let message = no_message();
-        let name = self.settings.name;
-        let b = self.batch;
-        let lowest = b.lowest_sequence_id;
-        let highest = b.highest_sequence_id;
-        let txn_id = b.txn_id;
         let frame = BatchFrame {
-            num_messages: b.len,
-            current_size_bytes: b.current_size_bytes,
-            highest_sequence_id: highest,
-            txn_id: txn_id,
+            num_messages: self.batch.len,
+            current_size_bytes: self.batch.current_size_bytes,
+            highest_sequence_id: self.batch.highest_sequence_id,
+            txn_id: self.batch.txn_id,
         };
         FrameRecord {
-            sequence_id: lowest,
-            publish_time: publish_time,
-            producer_name: name,
+            sequence_id: self.batch.lowest_sequence_id,
+            publish_time,
+            producer_name: self.settings.name,
             uuid: [0; 16],
-            message: message,
+            message: no_message(),
             kind: FrameKind::Batch(frame),
         }
     }
 
     // The open batch becomes a frame; its messages stay held.
-    pub fn flush(self, publish_time: u64) -> Pushed
+    pub fn flush(self, publish_time: u64) -> Pushed<FrameRecord>
         ensures { result ≡ flushed_core publish_time self }
     {
-        let frame = self.batch_record(publish_time);
         let counted = self.count(self.batch.len, self.batch.encoded_len);
-        let p = counted.push(frame, 1);
-        let put = p.frame;
-        let mut core = p.core;
-        let empty = BatchContainer::empty();
-        core.batch = empty;
+        let p = counted.push(self.batch_record(publish_time), 1);
         Pushed {
-            core: core,
-            frame: put,
+            core: Core {
+                batch: BatchContainer::empty(),
+                ..p.core
+            },
+            put: p.put,
         }
     }
 
-    pub fn flush_if(self, asked: bool, publish_time: u64) -> Pushed
+    pub fn flush_if(self, asked: bool, publish_time: u64) -> Pushed<FrameRecord>
         ensures { result ≡ flushed_if asked publish_time self }
     {
         if asked {
             self.flush(publish_time)
         } else {
-            let none = no_frame();
             Pushed {
                 core: self,
-                frame: none,
+                put: None,
             }
         }
     }
 
     // After a message has joined.
-    pub fn flush_batch_if_full(self, publish_time: u64) -> Pushed
+    pub fn flush_batch_if_full(self, publish_time: u64) -> Pushed<FrameRecord>
         ensures { result ≡ flushed_if (is_full self.settings self.batch.len self.batch.current_size_bytes) publish_time self }
     {
         let full = self.is_full(self.batch.len, self.batch.current_size_bytes);
@@ -105,10 +94,7 @@ impl Core {
     pub fn flush_answer(self) -> Result<usize, ProducerError>
         ensures { result ≡ flush_answer self }
     {
-        let b = self.batch;
-        if b.len == 0 {
-            Ok(0)
-        } else if self.settings.switches.closed {
+        if (self.batch.len == 0) | self.settings.switches.closed {
             Ok(0)
         } else if too_many(self.rings.waiting, 1) {
             Err(ProducerError::OutboundFull)
@@ -122,12 +108,10 @@ impl Core {
     {
         let answer = self.flush_answer();
         let p = self.flush_if(makes_frame(answer), publish_time);
-        let core = p.core;
-        let frame = p.frame;
         FlushDelta {
-            answer: answer,
-            core: core,
-            frame: frame,
+            answer,
+            core: p.core,
+            frame: p.put,
         }
     }
 }

@@ -20,9 +20,9 @@ impl Core {
         let w = self.way(m);
         if too_many(self.rings.waiting, frames_pushed(w)) {
             Err(ProducerError::OutboundFull)
-        } else if held_full(w, self.rings.held_len) {
+        } else if held_full(w, self.rings.held.len) {
             Err(ProducerError::HeldFull)
-        } else if pending_full(w, self.rings.pending_len) {
+        } else if pending_full(w, self.rings.pending.len) {
             Err(ProducerError::PendingFull)
         } else {
             Ok(w)

@@ -15,7 +15,7 @@ impl Core {
         let delays = settings.delays;
         let timeout = delays.send_timeout;
         let deadline = after(timeout, enqueued_at);
-        unless_none(self.rings.pending_len, deadline)
+        unless_none(self.rings.pending.len, deadline)
     }
 
     pub fn next_batch_deadline(self) -> Option<u64>

@@ -2,61 +2,58 @@
 ghost use Rattle.std.specs.Prelude.{◌≡◌};
 ghost use Rattle.plans.specs.Replay.{fronted_core, fronted_entry, replay_count, replay_answer};
 
-use crate::delta::{Accepted, EntryPut, FramePut, Pushed};
+use crate::delta::{Pushed, put_at};
 use crate::state::Core;
-use rules::numbers::saturating_add;
-use rules::rings::{Ring, place_before, too_many, too_many_pending};
+use rules::rings::{Rings, too_many, too_many_pending};
 use types::entry::OpSend;
 use types::error::ProducerError;
 use types::frame::FrameRecord;
 
 impl Core {
     // A record of so many frames in front of those that wait; of a batched entry there is none.
-    pub fn front(mut self, asked: bool, frame: FrameRecord, frames: usize) -> Pushed
+    pub fn front(self, asked: bool, frame: FrameRecord, frames: usize) -> Pushed<FrameRecord>
         ensures { result ≡ fronted_core asked frame frames self }
     {
-        let mut rings = self.rings;
-        let p = place_before(
-            asked,
-            Ring::Outbound,
-            rings.outbound_head,
-            rings.outbound_len,
-        );
-        let waiting = saturating_add(frames, rings.waiting);
-        rings.outbound_head = p.head;
-        rings.outbound_len = p.len;
-        rings.waiting = waiting;
-        self.rings = rings;
-        Pushed {
-            core: self,
-            frame: FramePut {
-                put: p.put,
-                at: p.at,
-                frame: frame,
-            },
+        let outbound = self.rings.outbound;
+        let waiting = frames.saturating_add(self.rings.waiting);
+        if asked {
+            let rings = Rings {
+                outbound: outbound.longer_before(),
+                waiting,
+                ..self.rings
+            };
+            Pushed {
+                core: Core { rings, ..self },
+                put: put_at(outbound.place_before(), frame),
+            }
+        } else {
+            let rings = Rings {
+                waiting,
+                ..self.rings
+            };
+            Pushed {
+                core: Core { rings, ..self },
+                put: None,
+            }
         }
     }
 
     // An entry in front of those that are pending, under its own id, which is answerable.
-    pub fn front_entry(mut self, op: OpSend) -> Accepted
+    pub fn front_entry(self, op: OpSend) -> Pushed<OpSend>
         ensures { result ≡ fronted_entry op self }
     {
-        let mut rings = self.rings;
-        let p = place_before(true, Ring::Pending, rings.pending_head, rings.pending_len);
-        rings.pending_head = p.head;
-        rings.pending_len = p.len;
-        self.rings = rings;
-        let id = op.sequence_id;
-        let publish = op.publish;
-        Accepted {
-            core: self,
-            entry: EntryPut {
-                put: p.put,
-                at: p.at,
-                id: id.0,
-                mark: 1,
-                publish: publish,
-            },
+        let pending = self.rings.pending;
+        let rings = Rings {
+            pending: pending.longer_before(),
+            ..self.rings
+        };
+        let marked = OpSend {
+            answerable: true,
+            ..op
+        };
+        Pushed {
+            core: Core { rings, ..self },
+            put: put_at(pending.place_before(), marked),
         }
     }
 
@@ -80,7 +77,7 @@ impl Core {
     ) -> Result<(), ProducerError>
         ensures { result ≡ replay_answer well_formed entries frames self }
     {
-        let pending_full = too_many_pending(self.rings.pending_len, entries);
+        let pending_full = too_many_pending(self.rings.pending.len, entries);
         let outbound_full = too_many(self.rings.waiting, frames);
         if !well_formed {
             Err(ProducerError::MalformedEntry)

@@ -2,17 +2,17 @@
 ghost use Rattle.std.specs.Prelude.{◌≡◌};
 ghost use Rattle.plans.specs.Send.{publish_of, frame_of, emitted, singled, joined, chunked, emitted_after, refused_by, refused_large, joined_after, singled_after, chunked_after, followed, planned};
 
-use crate::delta::{EntryPut, FramePut, HeldPut, SendDelta, no_entry, no_frame, no_held};
+use crate::delta::{Put, SendDelta};
 use crate::state::Core;
 use rules::batch::{single_of, with_message};
 use rules::chunks::chunked_bytes;
 use rules::numbers::{at_least_one, message_count};
 use types::answer::SendDecision;
-use types::entry::{Publish, Replay};
+use types::entry::{OpSend, Publish, Replay};
 use types::error::ProducerError;
 use types::frame::{ChunkedMessageContext, FrameKind, FrameRecord};
 use types::memory_limit::MemoryReservation;
-use types::message::OutgoingMessage;
+use types::message::{OutgoingMessage, SingleMessage};
 use types::types::SequenceId;
 use types::way::Way;
 
@@ -31,50 +31,44 @@ pub struct Sending {
 #[derive(Clone, Copy)]
 pub struct Emitted {
     pub core: Core,
-    pub frame: FramePut,
-    pub entry: EntryPut,
+    pub frame: Option<Put<FrameRecord>>,
+    pub entry: Option<Put<OpSend>>,
 }
 
 // A message in the open batch.
 #[derive(Clone, Copy)]
 pub struct Joined {
     pub core: Core,
-    pub entry: EntryPut,
-    pub held: HeldPut,
+    pub entry: Option<Put<OpSend>>,
+    pub held: Option<Put<SingleMessage>>,
 }
 
 // The frame record of an entry.
 fn frame_of(id: u64, p: Publish, kind: FrameKind) -> FrameRecord
     ensures { result ≡ frame_of id p kind }
 {
-    let name = p.producer_name;
     let uuid = p.uuid;
-    let message = p.message;
     FrameRecord {
         sequence_id: SequenceId(id),
         publish_time: p.publish_time,
-        producer_name: name,
-        uuid: uuid,
-        message: message,
-        kind: kind,
+        producer_name: p.producer_name,
+        uuid,
+        message: p.message,
+        kind,
     }
 }
 
 // The message's own frames, after the batch that was flushed before. `Emit` counts only the former.
-fn emit_delta(first: FramePut, e: Emitted, count: usize) -> SendDelta
+fn emit_delta(first: Option<Put<FrameRecord>>, e: Emitted, count: usize) -> SendDelta
     ensures { result ≡ emitted_after first e count }
 {
-    let core = e.core;
-    let second = e.frame;
-    let entry = e.entry;
-    let held = no_held();
     SendDelta {
-        answer: Ok(SendDecision::Emit { count: count }),
-        core: core,
-        first: first,
-        second: second,
-        entry: entry,
-        held: held,
+        answer: Ok(SendDecision::Emit { count }),
+        core: e.core,
+        first,
+        second: e.frame,
+        entry: e.entry,
+        held: None,
     }
 }
 
@@ -83,19 +77,16 @@ impl Core {
     fn publish_of(self, a: Sending, num_messages: i32, replay: Replay) -> Publish
         ensures { result ≡ publish_of a num_messages replay self }
     {
-        let name = self.settings.name;
-        let reservation = a.reservation;
         let uuid = a.uuid;
-        let message = a.message;
         Publish {
-            num_messages: num_messages,
+            num_messages,
             enqueued_at: a.now,
-            reservation: reservation,
+            reservation: a.reservation,
             publish_time: a.publish_time,
-            producer_name: name,
-            uuid: uuid,
-            message: message,
-            replay: replay,
+            producer_name: self.settings.name,
+            uuid,
+            message: a.message,
+            replay,
         }
     }
 
@@ -112,15 +103,11 @@ impl Core {
     {
         let frame = frame_of(self.ids.next_sequence_id, p, kind);
         let accepted = self.assign_sequence_id(p);
-        let entry = accepted.entry;
-        let counted = accepted.core.count(messages, bytes);
-        let pushed = counted.push(frame, frames);
-        let core = pushed.core;
-        let put = pushed.frame;
+        let pushed = accepted.core.count(messages, bytes).push(frame, frames);
         Emitted {
-            core: core,
-            frame: put,
-            entry: entry,
+            core: pushed.core,
+            frame: pushed.put,
+            entry: accepted.put,
         }
     }
 
@@ -143,20 +130,13 @@ impl Core {
     pub fn add_to_batch(self, a: Sending) -> Joined
         ensures { result ≡ joined a self }
     {
-        let message = a.message;
-        let b = self.batch;
-        let grown = with_message(b, message, self.ids.next_sequence_id, a.now);
-        let p = self.publish_of(a, 1, Replay::Batched);
-        let accepted = self.assign_sequence_id(p);
-        let entry = accepted.entry;
-        let held = accepted.core.hold(single_of(message));
-        let put = held.held;
-        let mut core = held.core;
-        core.batch = grown;
+        let batch = with_message(self.batch, a.message, self.ids.next_sequence_id, a.now);
+        let accepted = self.assign_sequence_id(self.publish_of(a, 1, Replay::Batched));
+        let held = accepted.core.hold(single_of(a.message));
         Joined {
-            core: core,
-            entry: entry,
-            held: put,
+            core: Core { batch, ..held.core },
+            entry: accepted.put,
+            held: held.put,
         }
     }
 
@@ -166,36 +146,29 @@ impl Core {
     {
         let count = total_chunks as usize;
         let bytes = chunked_bytes(a.message.payload.len, total_chunks, max_chunk_size);
-        let p = self.publish_of(
-            a,
-            1,
-            Replay::Chunked {
-                total_chunks: total_chunks,
-                max_chunk_size: max_chunk_size,
-            },
-        );
+        let replay = Replay::Chunked {
+            total_chunks,
+            max_chunk_size,
+        };
         let kind = FrameKind::Chunked(ChunkedMessageContext {
-            total_chunks: total_chunks,
+            total_chunks,
             next_chunk: 0,
-            max_chunk_size: max_chunk_size,
+            max_chunk_size,
         });
-        self.emit(p, kind, count, count, bytes)
+        self.emit(self.publish_of(a, 1, replay), kind, count, count, bytes)
     }
 
     // Nothing changes.
     fn refuse(self, e: ProducerError) -> SendDelta
         ensures { result ≡ refused_by e self }
     {
-        let none = no_frame();
-        let entry = no_entry();
-        let held = no_held();
         SendDelta {
             answer: Err(e),
             core: self,
-            first: none,
-            second: none,
-            entry: entry,
-            held: held,
+            first: None,
+            second: None,
+            entry: None,
+            held: None,
         }
     }
 
@@ -204,21 +177,16 @@ impl Core {
         ensures { result ≡ refused_large before a self }
     {
         let f = self.flush_if(before, a.publish_time);
-        let core = f.core;
-        let first = f.frame;
-        let second = no_frame();
-        let entry = no_entry();
-        let held = no_held();
         SendDelta {
             answer: Err(ProducerError::MessageTooLarge {
                 size: a.message.payload.len,
                 max_message_size: self.settings.limits.max_message_size,
             }),
-            core: core,
-            first: first,
-            second: second,
-            entry: entry,
-            held: held,
+            core: f.core,
+            first: f.put,
+            second: None,
+            entry: None,
+            held: None,
         }
     }
 
@@ -226,20 +194,15 @@ impl Core {
         ensures { result ≡ joined_after before a self }
     {
         let f = self.flush_if(before, a.publish_time);
-        let first = f.frame;
         let j = f.core.add_to_batch(a);
-        let entry = j.entry;
-        let held = j.held;
         let g = j.core.flush_batch_if_full(a.publish_time);
-        let core = g.core;
-        let second = g.frame;
         SendDelta {
             answer: Ok(SendDecision::Batched),
-            core: core,
-            first: first,
-            second: second,
-            entry: entry,
-            held: held,
+            core: g.core,
+            first: f.put,
+            second: g.put,
+            entry: j.entry,
+            held: j.held,
         }
     }
 
@@ -247,9 +210,7 @@ impl Core {
         ensures { result ≡ singled_after before a self }
     {
         let f = self.flush_if(before, a.publish_time);
-        let first = f.frame;
-        let e = f.core.emit_single(a);
-        emit_delta(first, e, 1)
+        emit_delta(f.put, f.core.emit_single(a), 1)
     }
 
     fn send_chunked(
@@ -262,9 +223,8 @@ impl Core {
         ensures { result ≡ chunked_after before a max_chunk_size total_chunks self }
     {
         let f = self.flush_if(before, a.publish_time);
-        let first = f.frame;
         let e = f.core.emit_chunked(a, max_chunk_size, total_chunks);
-        emit_delta(first, e, total_chunks as usize)
+        emit_delta(f.put, e, total_chunks as usize)
     }
 
     fn follow(self, w: Way, a: Sending) -> SendDelta
@@ -285,10 +245,7 @@ impl Core {
     pub fn plan_send(self, store_len: usize, a: Sending) -> SendDelta
         ensures { result ≡ planned store_len a self }
     {
-        let message = a.message;
-        let reservation = a.reservation;
-        let plan = self.choose(store_len, message, reservation);
-        match plan {
+        match self.choose(store_len, a.message, a.reservation) {
             Err(e) => self.refuse(e),
             Ok(w) => self.follow(w, a),
         }

@@ -13,11 +13,11 @@ impl Core {
     pub fn without_entry(mut self, place: usize) -> Core
         ensures { result ≡ core_without place self }
     {
-        let n = at_most(self.rings.pending_len, 256);
-        let head = head_after(self.rings.pending_head, place);
+        let n = at_most(self.rings.pending.len, 256);
+        let head = head_after(self.rings.pending.head, place);
         let len = saturating_sub(n, 1);
-        self.rings.pending_head = head;
-        self.rings.pending_len = len;
+        self.rings.pending.head = head;
+        self.rings.pending.len = len;
         self
     }
 

@@ -2,7 +2,7 @@
 ghost use Rattle.std.specs.Prelude.{◌≡◌};
 ghost use Rattle.plans.specs.State.{new_core};
 
-use rules::rings::Rings;
+use rules::rings::{Ring, Rings};
 use types::batch::BatchContainer;
 use types::settings::ProducerSettings;
 use types::stats::{Counters, SequenceIds};
@@ -25,28 +25,22 @@ impl Core {
     pub fn new(handle: ProducerHandle) -> Core
         ensures { result ≡ new_core handle }
     {
-        let settings = new_settings();
-        let ids = new_ids();
-        let batch = BatchContainer::empty();
         Core {
-            handle: handle,
-            settings: settings,
-            ids: ids,
+            handle,
+            settings: new_settings(),
+            ids: new_ids(),
             counters: Counters {
                 total_msgs_sent: 0,
                 total_bytes_sent: 0,
                 total_send_failed: 0,
                 total_acks_received: 0,
             },
-            batch: batch,
+            batch: BatchContainer::empty(),
             rings: Rings {
-                outbound_head: 0,
-                outbound_len: 0,
+                outbound: Ring { head: 0, len: 0 },
                 waiting: 0,
-                held_head: 0,
-                held_len: 0,
-                pending_head: 0,
-                pending_len: 0,
+                held: Ring { head: 0, len: 0 },
+                pending: Ring { head: 0, len: 0 },
             },
         }
     }

@@ -28,20 +28,20 @@ impl Core {
     fn taken(mut self, record_stays: bool, count: usize) -> Core
         ensures { result ≡ core_taken record_stays count self }
     {
-        let n = at_most(self.rings.held_len, 512);
+        let n = at_most(self.rings.held.len, 512);
         let left = saturating_sub(n, count);
-        let held_head = (self.rings.held_head % 512 + at_most(count, 512)) % 512;
+        let held_head = (self.rings.held.head % 512 + at_most(count, 512)) % 512;
         let waiting = saturating_sub(self.rings.waiting, 1);
-        self.rings.held_head = held_head;
-        self.rings.held_len = left;
+        self.rings.held.head = held_head;
+        self.rings.held.len = left;
         self.rings.waiting = waiting;
         if record_stays {
             self
         } else {
-            let head = (self.rings.outbound_head % 1024 + 1) % 1024;
-            let len = saturating_sub(at_most(self.rings.outbound_len, 1024), 1);
-            self.rings.outbound_head = head;
-            self.rings.outbound_len = len;
+            let head = (self.rings.outbound.head % 1024 + 1) % 1024;
+            let len = saturating_sub(at_most(self.rings.outbound.len, 1024), 1);
+            self.rings.outbound.head = head;
+            self.rings.outbound.len = len;
             self
         }
     }
@@ -52,7 +52,7 @@ impl Core {
     {
         let kind = front.kind;
         let handle = self.handle;
-        let answer = answer_of(self.rings.outbound_len, span, room);
+        let answer = answer_of(self.rings.outbound.len, span, room);
         let done = is_done(answer);
         let core = self.taken(stays(kind), count);
         let slot = record_after(front);

@@ -40,33 +40,33 @@ get_d_any (x ∷ l) (suc i) d e h = get_d_any l i d e (omega arith)
 -- the ids up to i stand in the array
 pub record Naming (s : ProducerState) (ids : List ℕ) (i : ℕ) : Type 0 where
   pub len : length ids ≡ 1024
-  pub low : i ≤ min s.core.rings.outbound_len 1024
+  pub low : i ≤ min s.core.rings.outbound.len 1024
   pub same : take i ids ≡ take i (map frame_id (view s).out.frames)
 
 -- all are named
-pub naming_all : (s : ProducerState) (ids : List ℕ) (i : ℕ) → Naming s ids i → min s.core.rings.outbound_len 1024 ≤ i
-    → take (min s.core.rings.outbound_len 1024) ids ≡ map frame_id (view s).out.frames
+pub naming_all : (s : ProducerState) (ids : List ℕ) (i : ℕ) → Naming s ids i → min s.core.rings.outbound.len 1024 ≤ i
+    → take (min s.core.rings.outbound.len 1024) ids ≡ map frame_id (view s).out.frames
 unfolding view
 naming_all s ids i l b =
-    let few : length (view s).out.frames ≤ min s.core.rings.outbound_len 1024 =
-    few_ring 1024 s.outbound s.core.rings.outbound_head s.core.rings.outbound_len in
+    let few : length (view s).out.frames ≤ min s.core.rings.outbound.len 1024 =
+    few_ring 1024 s.outbound s.core.rings.outbound.head s.core.rings.outbound.len in
     let named : length (map frame_id (view s).out.frames) ≡ length (view s).out.frames = length-map (view s).out.frames frame_id in
-    let k : min s.core.rings.outbound_len 1024 ≡ i = omega (arith, l.low) in
+    let k : min s.core.rings.outbound.len 1024 ≡ i = omega (arith, l.low) in
     ap (λ (j : ℕ). take j ids) k ∙ l.same ∙ take_all i (map frame_id (view s).out.frames) (omega arith)
 
 module _ (s : ProducerState) (f : Full s) (ids : List ℕ) where
-  length_names : length (map frame_id (view s).out.frames) ≡ min s.core.rings.outbound_len 1024
+  length_names : length (map frame_id (view s).out.frames) ≡ min s.core.rings.outbound.len 1024
   unfolding view
   length_names =
-      length-map (ring 1024 s.outbound s.core.rings.outbound_head s.core.rings.outbound_len) frame_id
-      ∙ length_ring 1024 (lit< tt) s.outbound f.outbound s.core.rings.outbound_head s.core.rings.outbound_len
+      length-map (ring 1024 s.outbound s.core.rings.outbound.head s.core.rings.outbound.len) frame_id
+      ∙ length_ring 1024 (lit< tt) s.outbound f.outbound s.core.rings.outbound.head s.core.rings.outbound.len
 
-  name_there : (i : ℕ) (d : FrameRecord) → i < min s.core.rings.outbound_len 1024
-      → get_or (map frame_id (view s).out.frames) i (frame_id d) ≡ frame_id (get_or s.outbound (slot 1024 s.core.rings.outbound_head i) d)
+  name_there : (i : ℕ) (d : FrameRecord) → i < min s.core.rings.outbound.len 1024
+      → get_or (map frame_id (view s).out.frames) i (frame_id d) ≡ frame_id (get_or s.outbound (slot 1024 s.core.rings.outbound.head i) d)
   unfolding view
   name_there i d b =
-      let h = s.core.rings.outbound_head in
-      let n = s.core.rings.outbound_len in
+      let h = s.core.rings.outbound.head in
+      let n = s.core.rings.outbound.len in
       get_or-map frame_id (ring 1024 s.outbound h n) i d
       ∙ ap frame_id (ring_at 1024 (lit< tt) s.outbound f.outbound d h n i b)
 
@@ -74,12 +74,12 @@ module _ (s : ProducerState) (f : Full s) (ids : List ℕ) where
   naming_start e = record { len = e; low = zero-le; same = refl }
 
   module _ (i : ℕ) (l : Naming s ids i) where
-    pub naming_step : (d : FrameRecord) → i < min s.core.rings.outbound_len 1024
-        → Naming s (set ids i (frame_id (get_or s.outbound (slot 1024 s.core.rings.outbound_head i) d))) (i + 1)
+    pub naming_step : (d : FrameRecord) → i < min s.core.rings.outbound.len 1024
+        → Naming s (set ids i (frame_id (get_or s.outbound (slot 1024 s.core.rings.outbound.head i) d))) (i + 1)
     naming_step d b =
         let names : List ℕ = map frame_id (view s).out.frames in
-        let x : ℕ = frame_id (get_or s.outbound (slot 1024 s.core.rings.outbound_head i) d) in
-        let e : length names ≡ min s.core.rings.outbound_len 1024 = length_names in
+        let x : ℕ = frame_id (get_or s.outbound (slot 1024 s.core.rings.outbound.head i) d) in
+        let e : length names ≡ min s.core.rings.outbound.len 1024 = length_names in
         let h : i < length names = omega arith in
         record {
           len = simp length-set l.len;

@@ -59,15 +59,15 @@ record Plans (due : Option ℕ) (room : ℕ) (s : ProducerState) (es : List OpSe
   fits : p.write ≡ pick (ltb room p.count) 0 p.count
 
 module _ (s : ProducerState) (f : Full s) (due : Option ℕ) (room : ℕ) (es : List OpSend) (p : Handout)
-    (e : take (min s.core.rings.pending_len 256) es ≡ (view s).pending) (h : p ≡ plan_of due es room s) where
+    (e : take (min s.core.rings.pending.len 256) es ≡ (view s).pending) (h : p ≡ plan_of due es room s) where
   plans : Plans due room s es p
   plans =
-      let l : length (view s).pending ≡ min s.core.rings.pending_len 256 = length_view s f in
+      let l : length (view s).pending ≡ min s.core.rings.pending.len 256 = length_view s f in
       let most : count_of due (view s) ≤ length (view s).pending = count_most due (view s) in
       let n : ℕ = (plan_of due es room s).count in
       let k : n ≡ count_of due (view s) = λ j. gone_count due (timeout_is s j) (e j) in
       let first : take n es ≡ gone_of due (view s) =
-      sym (take-take n (min s.core.rings.pending_len 256) es (omega arith))
+      sym (take-take n (min s.core.rings.pending.len 256) es (omega arith))
       ∙ ap (take n) e
       ∙ ap (λ (j : ℕ). take j (view s).pending) k
       ∙ gone_is due (view s) in
@@ -133,11 +133,11 @@ left_view s f None es p e k =
       settings = c.settings;
       ids = c.ids;
       counters = c.counters;
-      pending = ring_none 256 (slots_of (drained_state None es p s)) r.pending_head j;
+      pending = ring_none 256 (slots_of (drained_state None es p s)) r.pending.head j;
       out = record {
-        frames = ring_none 1024 s.outbound r.outbound_head j;
+        frames = ring_none 1024 s.outbound r.outbound.head j;
         waiting = 0;
-        held = ring_none 512 s.held r.held_head j;
+        held = ring_none 512 s.held r.held.head j;
         batch = empty_outgoing.batch;
       };
     }
@@ -145,8 +145,8 @@ left_view s f (Some time) es p e k =
     let c = s.core in
     let r = c.rings in
     let due : Option ℕ = Some time in
-    let h : ℕ = r.pending_head in
-    let n : ℕ = r.pending_len in
+    let h : ℕ = r.pending.head in
+    let n : ℕ = r.pending.len in
     let gone : List OpSend = take p.count es in
     let slots : List OpSend = slots_of (drained_state due es p s) in
     let len : length slots ≡ 256 =
@@ -162,7 +162,7 @@ left_view s f (Some time) es p e k =
 -- ── the call ──
 
 pub drains : (s : ProducerState) → Full s → (due : Option ℕ) (ys zs es : List OpSend) (p : Handout) (r : CountAnswer)
-    → take (min s.core.rings.pending_len 256) es ≡ (view s).pending → p ≡ plan_of due es (length ys) s → zs ≡ table_after (take p.write es) ys → r ≡ drained_to due es p s → Drains due s ys r zs
+    → take (min s.core.rings.pending.len 256) es ≡ (view s).pending → p ≡ plan_of due es (length ys) s → zs ≡ table_after (take p.write es) ys → r ≡ drained_to due es p s → Drains due s ys r zs
 drains s f due ys zs es p r listed planned z e = subst (λ (x : CountAnswer). Drains due s ys x zs) (sym e) (go (dec_lt (length ys) p.count))
   where
     pl : Plans due (length ys) s es p

@@ -77,11 +77,11 @@ module _ (s : ProducerState) (f : Full s) where
         settings = c.settings;
         ids = c.ids;
         counters = c.counters;
-        pending = ring 256 (slots_of s) k.pending_head k.pending_len;
+        pending = ring 256 (slots_of s) k.pending.head k.pending.len;
         out = record {
-          frames = ring_before 1024 (lit< tt) s.outbound f.outbound k.outbound_head k.outbound_len (not (is_batched op.publish.replay)) (again op) j;
+          frames = ring_before 1024 (lit< tt) s.outbound f.outbound k.outbound.head k.outbound.len (not (is_batched op.publish.replay)) (again op) j;
           waiting = add_sat (frames_of op.publish.replay) k.waiting;
-          held = ring 512 s.held k.held_head k.held_len;
+          held = ring 512 s.held k.held.head k.held.len;
           batch = c.batch;
         };
       }
@@ -142,12 +142,12 @@ module _ (s : ProducerState) (f : Full s) where
   enters op =
       let c = s.core in
       let k = c.rings in
-      let p = place_before true 256 k.pending_head k.pending_len in
+      let p = place_before true 256 k.pending.head k.pending.len in
       let id = op.sequence_id.0 in
       let e =
       ap (λ (l : List OpSend). ring 256 l p.head p.len)
       (entries_set_if p.put s.pending_ids s.pending_marks s.pending p.at id 1 op.publish)
-      ∙ ring_before 256 (lit< tt) (slots_of s) (slots s f) k.pending_head k.pending_len true (mark op) in
+      ∙ ring_before 256 (lit< tt) (slots_of s) (slots s f) k.pending.head k.pending.len true (mark op) in
       λ j.
       record {
         handle = c.handle;
@@ -156,9 +156,9 @@ module _ (s : ProducerState) (f : Full s) where
         counters = c.counters;
         pending = e j;
         out = record {
-          frames = ring 1024 s.outbound k.outbound_head k.outbound_len;
+          frames = ring 1024 s.outbound k.outbound.head k.outbound.len;
           waiting = k.waiting;
-          held = ring 512 s.held k.held_head k.held_len;
+          held = ring 512 s.held k.held.head k.held.len;
           batch = c.batch;
         };
       }

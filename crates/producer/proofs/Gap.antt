@@ -19,9 +19,9 @@ module _ (s₀ : ProducerState) (place : ℕ) where
     pub ids : length s.pending_ids ≡ 256
     pub marks : length s.pending_marks ≡ 256
     pub pending : length s.pending ≡ 256
-    pub shift : Shift 256 (slots_of s₀) s₀.core.rings.pending_head s₀.core.rings.pending_len place (slots_of s) i
+    pub shift : Shift 256 (slots_of s₀) s₀.core.rings.pending.head s₀.core.rings.pending.len place (slots_of s) i
 
-  pub moving_start : Full s₀ → place < min s₀.core.rings.pending_len 256 → Moving s₀ place
+  pub moving_start : Full s₀ → place < min s₀.core.rings.pending.len 256 → Moving s₀ place
   moving_start f b =
       record {
         same = refl;
@@ -34,8 +34,8 @@ module _ (s₀ : ProducerState) (place : ℕ) where
   -- one entry moves up
   abbrev pub moved : ProducerState → ℕ → Publish → ProducerState
   moved s i d =
-      let from = slot 256 s₀.core.rings.pending_head (i + 1) in
-      let to = slot 256 s₀.core.rings.pending_head i in
+      let from = slot 256 s₀.core.rings.pending.head (i + 1) in
+      let to = slot 256 s₀.core.rings.pending.head i in
       record {
         core = s.core;
         outbound = s.outbound;
@@ -45,9 +45,9 @@ module _ (s₀ : ProducerState) (place : ℕ) where
         pending_marks = set s.pending_marks to (get_or s.pending_marks from 0);
       }
 
-  pub moving_step : (s : ProducerState) (i : ℕ) (d : Publish) → Moving s i → i + 1 < min s₀.core.rings.pending_len 256 → Moving (moved s i d) (i + 1)
+  pub moving_step : (s : ProducerState) (i : ℕ) (d : Publish) → Moving s i → i + 1 < min s₀.core.rings.pending.len 256 → Moving (moved s i d) (i + 1)
   moving_step s i d m b =
-      let h = s₀.core.rings.pending_head in
+      let h = s₀.core.rings.pending.head in
       let from = slot 256 h (i + 1) in
       let to = slot 256 h i in
       let is = s.pending_ids in
@@ -56,8 +56,8 @@ module _ (s₀ : ProducerState) (place : ℕ) where
       let li : from < length is = omega (arith, slot_below 256 h (i + 1) pos, m.ids) in
       let lm : from < length ms = omega (arith, slot_below 256 h (i + 1) pos, m.marks) in
       let lp : from < length ps = omega (arith, slot_below 256 h (i + 1) pos, m.pending) in
-      let next : Shift 256 (slots_of s₀) h s₀.core.rings.pending_len place (set (slots_of s) to (get_or (slots_of s) from (entry_of 0 0 d))) (i + 1) =
-      shift_step 256 pos (slots_of s₀) h s₀.core.rings.pending_len place (slots_of s) i (entry_of 0 0 d) m.shift b in
+      let next : Shift 256 (slots_of s₀) h s₀.core.rings.pending.len place (set (slots_of s) to (get_or (slots_of s) from (entry_of 0 0 d))) (i + 1) =
+      shift_step 256 pos (slots_of s₀) h s₀.core.rings.pending.len place (slots_of s) i (entry_of 0 0 d) m.shift b in
       record {
         same = ap (λ (t : ProducerState). with_slots (moved s i d) t) m.same;
         ids = simp length-set m.ids;
@@ -69,9 +69,9 @@ module _ (s₀ : ProducerState) (place : ℕ) where
             next;
       }
 
-  pub moving_end : (s : ProducerState) (i : ℕ) → Moving s i → min s₀.core.rings.pending_len 256 ≤ i + 1 → GapClosed place s₀ s
+  pub moving_end : (s : ProducerState) (i : ℕ) → Moving s i → min s₀.core.rings.pending.len 256 ≤ i + 1 → GapClosed place s₀ s
   moving_end s i m b =
       record {
         same = m.same;
-        moved = shift_end 256 pos (slots_of s₀) s₀.core.rings.pending_head s₀.core.rings.pending_len place (slots_of s) i m.shift b;
+        moved = shift_end 256 pos (slots_of s₀) s₀.core.rings.pending.head s₀.core.rings.pending.len place (slots_of s) i m.shift b;
       }

@@ -20,7 +20,7 @@ take_copied {A} l a i x p q there same =
 
 pub record Listing (s : ProducerState) (all : List OpSend) (i : ℕ) : Type 0 where
   pub len : length all ≡ 256
-  pub low : i ≤ min s.core.rings.pending_len 256
+  pub low : i ≤ min s.core.rings.pending.len 256
   pub same : take i all ≡ take i (view s).pending
 
 -- a ring's list is at most as long as its count says, whatever its array
@@ -29,13 +29,13 @@ unfolding ring
 few_ring cap l h n = omega (arith, length-take (min n cap) (drop (h % cap) (l ++ l)))
 
 -- all are listed
-pub listing_all : (s : ProducerState) (all : List OpSend) (i : ℕ) → Listing s all i → min s.core.rings.pending_len 256 ≤ i
-    → take (min s.core.rings.pending_len 256) all ≡ (view s).pending
+pub listing_all : (s : ProducerState) (all : List OpSend) (i : ℕ) → Listing s all i → min s.core.rings.pending.len 256 ≤ i
+    → take (min s.core.rings.pending.len 256) all ≡ (view s).pending
 unfolding view
 listing_all s all i l b =
-    let few : length (view s).pending ≤ min s.core.rings.pending_len 256 =
-    few_ring 256 (slots_of s) s.core.rings.pending_head s.core.rings.pending_len in
-    let k : min s.core.rings.pending_len 256 ≡ i = omega (arith, l.low) in
+    let few : length (view s).pending ≤ min s.core.rings.pending.len 256 =
+    few_ring 256 (slots_of s) s.core.rings.pending.head s.core.rings.pending.len in
+    let k : min s.core.rings.pending.len 256 ≡ i = omega (arith, l.low) in
     ap (λ (j : ℕ). take j all) k ∙ l.same ∙ take_all i (view s).pending (omega arith)
 
 module _ (s : ProducerState) (f : Full s) (all : List OpSend) where
@@ -43,13 +43,13 @@ module _ (s : ProducerState) (f : Full s) (all : List OpSend) where
   listing_start e = record { len = e; low = zero-le; same = refl }
 
   module _ (i : ℕ) (l : Listing s all i) where
-    pub listing_step : (d : Publish) (op : OpSend) → i < min s.core.rings.pending_len 256
-        → op ≡ entry_of (get_or s.pending_ids (slot 256 s.core.rings.pending_head i) 0)
-        (get_or s.pending_marks (slot 256 s.core.rings.pending_head i) 0)
-        (get_or s.pending (slot 256 s.core.rings.pending_head i) d)
+    pub listing_step : (d : Publish) (op : OpSend) → i < min s.core.rings.pending.len 256
+        → op ≡ entry_of (get_or s.pending_ids (slot 256 s.core.rings.pending.head i) 0)
+        (get_or s.pending_marks (slot 256 s.core.rings.pending.head i) 0)
+        (get_or s.pending (slot 256 s.core.rings.pending.head i) d)
         → Listing s (set all i op) (i + 1)
     listing_step d op b e =
-        let e₁ : length (view s).pending ≡ min s.core.rings.pending_len 256 = length_view s f in
+        let e₁ : length (view s).pending ≡ min s.core.rings.pending.len 256 = length_view s f in
         record {
           len = simp length-set l.len;
           low = omega arith;

@@ -21,16 +21,16 @@ use Rattle.producer.proofs.Full.{Full, slots}
 
 -- the ids and marks that are searched are those of the pending entries
 pub keys_view : (s : ProducerState) → Full s
-    → map key_of (view s).pending ≡ ring 256 (keys s.pending_ids s.pending_marks) s.core.rings.pending_head s.core.rings.pending_len
+    → map key_of (view s).pending ≡ ring 256 (keys s.pending_ids s.pending_marks) s.core.rings.pending.head s.core.rings.pending.len
 unfolding view
 keys_view s f =
-    ring_map key_of 256 (slots_of s) s.core.rings.pending_head s.core.rings.pending_len
-    ∙ ap (λ (l : List Key). ring 256 l s.core.rings.pending_head s.core.rings.pending_len)
+    ring_map key_of 256 (slots_of s) s.core.rings.pending.head s.core.rings.pending.len
+    ∙ ap (λ (l : List Key). ring 256 l s.core.rings.pending.head s.core.rings.pending.len)
     (keys_entries s.pending_ids s.pending_marks s.pending (f.ids ∙ sym f.pending))
 
-pub length_view : (s : ProducerState) → Full s → length (view s).pending ≡ min s.core.rings.pending_len 256
+pub length_view : (s : ProducerState) → Full s → length (view s).pending ≡ min s.core.rings.pending.len 256
 unfolding view
-length_view s f = length_ring 256 (lit< tt) (slots_of s) (slots s f) s.core.rings.pending_head s.core.rings.pending_len
+length_view s f = length_ring 256 (lit< tt) (slots_of s) (slots s f) s.core.rings.pending.head s.core.rings.pending.len
 
 -- a place that was found lies among the entries
 pub located_below : (id : ℕ) (l : List Key) (i : ℕ) → located id l ≡ Some i → i < length l
@@ -44,18 +44,18 @@ located_below id l i e = go (place_of (wanted id false) l) e
 
 -- what is put together from the arrays at a place is the entry there
 pub entry_there : (s : ProducerState) → Full s → (place : ℕ) (d : Publish) (r : OpSend)
-    → r ≡ entry_of (get_or s.pending_ids (slot 256 s.core.rings.pending_head place) 0)
-    (get_or s.pending_marks (slot 256 s.core.rings.pending_head place) 0)
-    (get_or s.pending (slot 256 s.core.rings.pending_head place) d)
+    → r ≡ entry_of (get_or s.pending_ids (slot 256 s.core.rings.pending.head place) 0)
+    (get_or s.pending_marks (slot 256 s.core.rings.pending.head place) 0)
+    (get_or s.pending (slot 256 s.core.rings.pending.head place) d)
     → get_or (view s).pending place r ≡ r
 unfolding view
 entry_there s f place d r e = go (dec_lt place (min n 256))
   where
     h : ℕ
-    h = s.core.rings.pending_head
+    h = s.core.rings.pending.head
 
     n : ℕ
-    n = s.core.rings.pending_len
+    n = s.core.rings.pending.len
 
     at : ℕ
     at = slot 256 h place
@@ -79,8 +79,8 @@ entry_there s f place d r e = go (dec_lt place (min n 256))
 pub unmarked_view : (id : ℕ) (s : ProducerState) → view (unmarked id s) ≡ with_pending (map (unmark id) (view s).pending) (view s)
 unfolding view
 unmarked_view id s =
-    let h = s.core.rings.pending_head in
-    let n = s.core.rings.pending_len in
+    let h = s.core.rings.pending.head in
+    let n = s.core.rings.pending.len in
     let e =
     ap (λ (l : List OpSend). ring 256 l h n) (unmarked_entries id s.pending_ids s.pending_marks s.pending)
     ∙ sym (ring_map (unmark id) 256 (slots_of s) h n) in

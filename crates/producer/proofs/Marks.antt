@@ -42,8 +42,8 @@ pub marks_all : (s : ProducerState) → Full s → (ns : List ℕ) → length ns
     → view (with_marks ns s) ≡ with_pending (map mark (view s).pending) (view s)
 unfolding view
 marks_all s f ns len h =
-    let head = s.core.rings.pending_head in
-    let n = s.core.rings.pending_len in
+    let head = s.core.rings.pending.head in
+    let n = s.core.rings.pending.len in
     let e : ring 256 (entries s.pending_ids ns s.pending) head n ≡ map mark (ring 256 (slots_of s) head n) =
     ap (λ (l : List OpSend). ring 256 l head n) (marked_entries s.pending_ids s.pending_marks ns s.pending (len ∙ sym f.marks) h)
     ∙ sym (ring_map mark 256 (slots_of s) head n) in

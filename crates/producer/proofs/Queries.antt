@@ -47,7 +47,7 @@ batch_elapsed_lem s now = has_elapsed_lem now (batch_deadline_of s.core) ∙ ap 
 
 -- the front entry's deadline
 pub send_deadline_lem : (s : ProducerState) → Full s → (d : Publish)
-    → (send_deadline_of s.core (get_or s.pending (s.core.rings.pending_head % 256) d).enqueued_at) ≡ next_send_deadline (view s)
+    → (send_deadline_of s.core (get_or s.pending (s.core.rings.pending.head % 256) d).enqueued_at) ≡ next_send_deadline (view s)
 unfolding next_send_deadline view
 send_deadline_lem s f d =
     num_unless n (maybe_after timeout sent)
@@ -55,10 +55,10 @@ send_deadline_lem s f d =
     ∙ go (dec_lt 0 n)
   where
     n : ℕ
-    n = s.core.rings.pending_len
+    n = s.core.rings.pending.len
 
     h : ℕ
-    h = s.core.rings.pending_head
+    h = s.core.rings.pending.head
 
     timeout : Option ℕ
     timeout = s.core.settings.delays.send_timeout

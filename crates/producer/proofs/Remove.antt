@@ -19,7 +19,7 @@ module _ (s : ProducerState) (place : ℕ) where
   -- the pending entries of a state with these slots, once the entry at the place has left
   left : ProducerState → List OpSend
   left t =
-      ring 256 (slots_of t) (head_after s.core.rings.pending_head place) (min s.core.rings.pending_len 256 - 1)
+      ring 256 (slots_of t) (head_after s.core.rings.pending.head place) (min s.core.rings.pending.len 256 - 1)
 
   removed : (t : ProducerState) → t ≡ with_slots t s → left t ≡ without (view s).pending place
       → view (with_core (core_without place s.core) t) ≡ with_pending (without (view s).pending place) (view s)
@@ -27,12 +27,12 @@ module _ (s : ProducerState) (place : ℕ) where
   removed t same e =
       ap (λ (u : ProducerState). view (with_core (core_without place s.core) u)) same ∙ (λ j. with_pending (e j) (view s))
 
-  pub removed_first : Full s → place ≡ 0 → place < min s.core.rings.pending_len 256
+  pub removed_first : Full s → place ≡ 0 → place < min s.core.rings.pending.len 256
       → view (with_core (core_without place s.core) s) ≡ with_pending (without (view s).pending place) (view s)
   unfolding view left
   removed_first f z b =
-      let h = s.core.rings.pending_head in
-      let n = s.core.rings.pending_len in
+      let h = s.core.rings.pending.head in
+      let n = s.core.rings.pending.len in
       removed s refl
       (ap (λ (k : ℕ). ring 256 (slots_of s) k (min n 256 - 1)) (pick_true (slot 256 h 1) h (eq-eqb place 0 z))
       ∙ ring_drop 256 (lit< tt) (slots_of s) (slots s f) blank h n 1 (omega arith)
@@ -42,7 +42,7 @@ module _ (s : ProducerState) (place : ℕ) where
       → view (with_core (core_without place s.core) t) ≡ with_pending (without (view s).pending place) (view s)
   unfolding view left
   removed_later t ne g =
-      let h = s.core.rings.pending_head in
-      let n = s.core.rings.pending_len in
+      let h = s.core.rings.pending.head in
+      let n = s.core.rings.pending.len in
       removed t g.same
       (ap (λ (k : ℕ). ring 256 (slots_of t) k (min n 256 - 1)) (pick_false (slot 256 h 1) h (ne_eqb place 0 ne)) ∙ g.moved)

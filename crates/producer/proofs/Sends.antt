@@ -242,15 +242,15 @@ module _ (s : ProducerState) (f : Full s) (a : Sending) where
       let q = view s in
       subst (λ (p : send.Plan). Sends d (send.carried_out (brought a) q p)) (plan_is n)
       (subst (λ (l : ℕ). Sends d (send.carried_out (brought a) q (plan_by n l (length q.pending)))) (sym (held_length s f))
-      (subst (λ (l : ℕ). Sends d (send.carried_out (brought a) q (plan_by n (min k.rings.held_len 512) l))) (sym (pending_length s f))
+      (subst (λ (l : ℕ). Sends d (send.carried_out (brought a) q (plan_by n (min k.rings.held.len 512) l))) (sym (pending_length s f))
       (chain
       k.settings.switches.closed
       (not (send.message_in n m m.payload))
       (not (send.within_bounds m a.reservation.bytes))
       (ltb 1024 (k.rings.waiting + send.pushes w))
-      (send.joins w && leb 512 (min k.rings.held_len 512))
+      (send.joins w && leb 512 (min k.rings.held.len 512))
       (send.is_too_large w)
-      (leb 256 (min k.rings.pending_len 256))
+      (leb 256 (min k.rings.pending.len 256))
       w
       takes)))
 

@@ -98,11 +98,11 @@ left_view s n e =
       settings = changed (BrokerReady false) c.settings;
       ids = c.ids;
       counters = failed (e j) c.counters;
-      pending = ring_none 256 (slots_of s) r.pending_head j;
+      pending = ring_none 256 (slots_of s) r.pending.head j;
       out = record {
-        frames = ring_none 1024 s.outbound r.outbound_head j;
+        frames = ring_none 1024 s.outbound r.outbound.head j;
         waiting = 0;
-        held = ring_none 512 s.held r.held_head j;
+        held = ring_none 512 s.held r.held.head j;
         batch = empty_outgoing.batch;
       };
     }

@@ -101,51 +101,51 @@ some_message =
 
 module _ (s : ProducerState) (f : Full s) (d : FrameRecord) where
   abbrev pub front_of : FrameRecord
-  front_of = get_or s.outbound (s.core.rings.outbound_head % 1024) d
+  front_of = get_or s.outbound (s.core.rings.outbound.head % 1024) d
 
   abbrev behind : List FrameRecord
-  behind = ring 1024 s.outbound (slot 1024 s.core.rings.outbound_head 1) (min s.core.rings.outbound_len 1024 - 1)
+  behind = ring 1024 s.outbound (slot 1024 s.core.rings.outbound.head 1) (min s.core.rings.outbound.len 1024 - 1)
 
-  none_waiting : s.core.rings.outbound_len ≡ 0 → (view s).out.frames ≡ []
+  none_waiting : s.core.rings.outbound.len ≡ 0 → (view s).out.frames ≡ []
   unfolding view
-  none_waiting z = ap (ring 1024 s.outbound s.core.rings.outbound_head) z ∙ ring_none 1024 s.outbound s.core.rings.outbound_head
+  none_waiting z = ap (ring 1024 s.outbound s.core.rings.outbound.head) z ∙ ring_none 1024 s.outbound s.core.rings.outbound.head
 
-  some_waiting : 0 < s.core.rings.outbound_len → (view s).out.frames ≡ front_of ∷ behind
+  some_waiting : 0 < s.core.rings.outbound.len → (view s).out.frames ≡ front_of ∷ behind
   unfolding view
   some_waiting b =
-      ring_pop 1024 (lit< tt) s.outbound f.outbound d s.core.rings.outbound_head s.core.rings.outbound_len (omega arith)
-      ∙ ap (λ (k : ℕ). get_or s.outbound k d ∷ behind) (slot_zero 1024 s.core.rings.outbound_head)
+      ring_pop 1024 (lit< tt) s.outbound f.outbound d s.core.rings.outbound.head s.core.rings.outbound.len (omega arith)
+      ∙ ap (λ (k : ℕ). get_or s.outbound k d ∷ behind) (slot_zero 1024 s.core.rings.outbound.head)
 
   -- what a store in its slot leaves, with the head where it was and moved on
-  module _ (b : 0 < s.core.rings.outbound_len) (x : FrameRecord) where
-    stored : ring 1024 (set s.outbound (s.core.rings.outbound_head % 1024) x) s.core.rings.outbound_head s.core.rings.outbound_len ≡ x ∷ behind
+  module _ (b : 0 < s.core.rings.outbound.len) (x : FrameRecord) where
+    stored : ring 1024 (set s.outbound (s.core.rings.outbound.head % 1024) x) s.core.rings.outbound.head s.core.rings.outbound.len ≡ x ∷ behind
     unfolding view
     stored =
-        let h = s.core.rings.outbound_head in
-        let n = s.core.rings.outbound_len in
+        let h = s.core.rings.outbound.head in
+        let n = s.core.rings.outbound.len in
         ap (λ (k : ℕ). ring 1024 (set s.outbound k x) h n) (sym (slot_zero 1024 h))
         ∙ ring_set 1024 (lit< tt) s.outbound f.outbound h n 0 x (omega arith)
         ∙ ap (λ (l : List FrameRecord). set l 0 x) (some_waiting b)
 
-    gone : ring 1024 (set s.outbound (s.core.rings.outbound_head % 1024) x) (slot 1024 s.core.rings.outbound_head 1) (min s.core.rings.outbound_len 1024 - 1) ≡ behind
+    gone : ring 1024 (set s.outbound (s.core.rings.outbound.head % 1024) x) (slot 1024 s.core.rings.outbound.head 1) (min s.core.rings.outbound.len 1024 - 1) ≡ behind
     gone =
-        let h = s.core.rings.outbound_head in
-        let n = s.core.rings.outbound_len in
+        let h = s.core.rings.outbound.head in
+        let n = s.core.rings.outbound.len in
         ring_drop 1024 (lit< tt) (set s.outbound (h % 1024) x) (simp length-set f.outbound) x h n 1 (omega arith) ∙ ap (drop 1) stored
 
-  rest_is : 0 < s.core.rings.outbound_len → (r : FrameRecord) (k : FrameKind)
-      → ring 1024 (set s.outbound (s.core.rings.outbound_head % 1024) (record_after r k))
-      (pick (stays_of k) s.core.rings.outbound_head (slot 1024 s.core.rings.outbound_head 1))
-      (pick (stays_of k) s.core.rings.outbound_len (min s.core.rings.outbound_len 1024 - 1))
+  rest_is : 0 < s.core.rings.outbound.len → (r : FrameRecord) (k : FrameKind)
+      → ring 1024 (set s.outbound (s.core.rings.outbound.head % 1024) (record_after r k))
+      (pick (stays_of k) s.core.rings.outbound.head (slot 1024 s.core.rings.outbound.head 1))
+      (pick (stays_of k) s.core.rings.outbound.len (min s.core.rings.outbound.len 1024 - 1))
       ≡ rest_of r k behind
   rest_is b r Single = gone b r
   rest_is b r (Batch y) = gone b r
   rest_is b r (Chunked c) = go (has_next c)
     where
       go : (t : Bool)
-          → ring 1024 (set s.outbound (s.core.rings.outbound_head % 1024) (pick t (with_kind (Chunked (next_chunk c)) r) r))
-          (pick t s.core.rings.outbound_head (slot 1024 s.core.rings.outbound_head 1))
-          (pick t s.core.rings.outbound_len (min s.core.rings.outbound_len 1024 - 1))
+          → ring 1024 (set s.outbound (s.core.rings.outbound.head % 1024) (pick t (with_kind (Chunked (next_chunk c)) r) r))
+          (pick t s.core.rings.outbound.head (slot 1024 s.core.rings.outbound.head 1))
+          (pick t s.core.rings.outbound.len (min s.core.rings.outbound.len 1024 - 1))
           ≡ pick t (with_kind (Chunked (next_chunk c)) r ∷ behind) behind
       go true = stored b (with_kind (Chunked (next_chunk c)) r)
       go false = gone b r
@@ -153,21 +153,21 @@ module _ (s : ProducerState) (f : Full s) (d : FrameRecord) where
   -- ── the held messages ──
 
   abbrev held_list : List SingleMessage
-  held_list = ring 512 s.held s.core.rings.held_head s.core.rings.held_len
+  held_list = ring 512 s.held s.core.rings.held.head s.core.rings.held.len
 
   abbrev pub first_of : FrameKind → List SingleMessage
-  first_of k = ring 512 s.held s.core.rings.held_head (held_count k s.core.rings.held_len)
+  first_of k = ring 512 s.held s.core.rings.held.head (held_count k s.core.rings.held.len)
 
   first_is : (b : BatchFrame) → first_of (Batch b) ≡ take b.num_messages held_list
-  first_is b = ring_takes s.held f.held s.core.rings.held_head s.core.rings.held_len b.num_messages
+  first_is b = ring_takes s.held f.held s.core.rings.held.head s.core.rings.held.len b.num_messages
 
   dropped_is : SingleMessage → (k : FrameKind)
-      → ring 512 s.held ((s.core.rings.held_head % 512 + min (held_count k s.core.rings.held_len) 512) % 512)
-      (min s.core.rings.held_len 512 - held_count k s.core.rings.held_len)
+      → ring 512 s.held ((s.core.rings.held.head % 512 + min (held_count k s.core.rings.held.len) 512) % 512)
+      (min s.core.rings.held.len 512 - held_count k s.core.rings.held.len)
       ≡ drop (holds k) held_list
   dropped_is m k =
-      let h = s.core.rings.held_head in
-      let n = s.core.rings.held_len in
+      let h = s.core.rings.held.head in
+      let n = s.core.rings.held.len in
       let c = min (holds k) (min n 512) in
       let small : min c 512 ≡ c = omega arith in
       ap (λ (j : ℕ). ring 512 s.held ((h % 512 + min j 512) % 512) (min n 512 - j)) (count_is k n)
@@ -178,15 +178,15 @@ module _ (s : ProducerState) (f : Full s) (d : FrameRecord) where
   abbrev pub state_after : FrameRecord → ProducerState
   state_after r =
       record {
-        core = core_taken (stays_of r.kind) (held_count r.kind s.core.rings.held_len) s.core;
-        outbound = set s.outbound (s.core.rings.outbound_head % 1024) (record_after r r.kind);
+        core = core_taken (stays_of r.kind) (held_count r.kind s.core.rings.held.len) s.core;
+        outbound = set s.outbound (s.core.rings.outbound.head % 1024) (record_after r r.kind);
         held = s.held;
         pending = s.pending;
         pending_ids = s.pending_ids;
         pending_marks = s.pending_marks;
       }
 
-  after_is : SingleMessage → 0 < s.core.rings.outbound_len → (r : FrameRecord)
+  after_is : SingleMessage → 0 < s.core.rings.outbound.len → (r : FrameRecord)
       → view (state_after r) ≡ with_out (taken r behind (view s).out) (view s)
   unfolding view
   after_is m b r =
@@ -307,7 +307,7 @@ module _ (s : ProducerState) (f : Full s) (d : FrameRecord) where
         frame = p.frame;
         state = record {
           core = p.core;
-          outbound = set s.outbound (s.core.rings.outbound_head % 1024) p.slot;
+          outbound = set s.outbound (s.core.rings.outbound.head % 1024) p.slot;
           held = s.held;
           pending = s.pending;
           pending_ids = s.pending_ids;
@@ -323,13 +323,13 @@ module _ (s : ProducerState) (f : Full s) (d : FrameRecord) where
     span = span_for store front_of kind
 
     abbrev answer : Result (Unit {0}) ProducerError
-    answer = answer_of s.core.rings.outbound_len span (length before)
+    answer = answer_of s.core.rings.outbound.len span (length before)
 
-    nothing : s.core.rings.outbound_len ≡ 0 → next_outbound_frame store (length before) (view s) ≡ refuse 10 (view s)
+    nothing : s.core.rings.outbound.len ≡ 0 → next_outbound_frame store (length before) (view s) ≡ refuse 10 (view s)
     unfolding next_outbound_frame
     nothing z = ap (take_from store (length before) (view s)) (none_waiting z)
 
-    module _ (p : 0 < s.core.rings.outbound_len) where
+    module _ (p : 0 < s.core.rings.outbound.len) where
       opened : next_outbound_frame store (length before) (view s)
           ≡ pick (frame_in (length store) front_of kind held_list)
           (pick (ltb (length before) (length (frame_for store front_of kind).payload)) (refuse 9 (view s))
@@ -356,7 +356,7 @@ module _ (s : ProducerState) (f : Full s) (d : FrameRecord) where
 
     -- what a plan that goes through tells
     record Accepted : Type 0 where
-      some : 0 < s.core.rings.outbound_len
+      some : 0 < s.core.rings.outbound.len
       inside : span.inside ≡ true
       fits : ltb (length before) span.len ≡ false
       is : answer ≡ (Ok tt)
@@ -365,49 +365,49 @@ module _ (s : ProducerState) (f : Full s) (d : FrameRecord) where
     not_refused b x y = cc
 
     accepted : is_done answer ≡ true → Accepted
-    accepted t = by (dec_lt 0 s.core.rings.outbound_len) span.inside refl (ltb (length before) span.len) refl
+    accepted t = by (dec_lt 0 s.core.rings.outbound.len) span.inside refl (ltb (length before) span.len) refl
       where
-        by : Dec (0 < s.core.rings.outbound_len) → (i : Bool) → span.inside ≡ i → (l : Bool) → ltb (length before) span.len ≡ l → Accepted
+        by : Dec (0 < s.core.rings.outbound.len) → (i : Bool) → span.inside ≡ i → (l : Bool) → ltb (length before) span.len ≡ l → Accepted
         by (no p) i e l x =
-            let z : s.core.rings.outbound_len ≡ 0 = omega arith in
-            let a : answer ≡ Err NoFrame = pick_true _ _ (eq-eqb s.core.rings.outbound_len 0 z) in
+            let z : s.core.rings.outbound.len ≡ 0 = omega arith in
+            let a : answer ≡ Err NoFrame = pick_true _ _ (eq-eqb s.core.rings.outbound.len 0 z) in
             differ (not_refused (is_done answer) (ap is_done a) t)
         by (yes p) false e l x =
-            let a : answer ≡ Err PartOutside = pick_false _ _ (ne_eqb s.core.rings.outbound_len 0 (λ z. omega arith)) ∙ pick_false _ _ e in
+            let a : answer ≡ Err PartOutside = pick_false _ _ (ne_eqb s.core.rings.outbound.len 0 (λ z. omega arith)) ∙ pick_false _ _ e in
             differ (not_refused (is_done answer) (ap is_done a) t)
         by (yes p) true e true x =
             let a : answer ≡ Err TooShort =
-            pick_false _ _ (ne_eqb s.core.rings.outbound_len 0 (λ z. omega arith)) ∙ pick_true _ _ e ∙ pick_true _ _ x in
+            pick_false _ _ (ne_eqb s.core.rings.outbound.len 0 (λ z. omega arith)) ∙ pick_true _ _ e ∙ pick_true _ _ x in
             differ (not_refused (is_done answer) (ap is_done a) t)
         by (yes p) true e false x =
             record {
               some = p;
               inside = e;
               fits = x;
-              is = pick_false _ _ (ne_eqb s.core.rings.outbound_len 0 (λ z. omega arith)) ∙ pick_true _ _ e ∙ pick_false _ _ x;
+              is = pick_false _ _ (ne_eqb s.core.rings.outbound.len 0 (λ z. omega arith)) ∙ pick_true _ _ e ∙ pick_false _ _ x;
             }
 
     abbrev Refuses : OutboundFrame → Result (Unit {0}) ProducerError → Type 0
     Refuses fr o = Takes store before before (record { answer = o; frame = fr; state = s })
 
     refused_is : (fr : OutboundFrame) → is_done answer ≡ false → Takes store before before (record { answer = answer; frame = fr; state = s })
-    refused_is fr t = by (dec_lt 0 s.core.rings.outbound_len) span.inside refl (ltb (length before) span.len) refl
+    refused_is fr t = by (dec_lt 0 s.core.rings.outbound.len) span.inside refl (ltb (length before) span.len) refl
       where
-        by : Dec (0 < s.core.rings.outbound_len) → (i : Bool) → span.inside ≡ i → (l : Bool) → ltb (length before) span.len ≡ l → Refuses fr answer
+        by : Dec (0 < s.core.rings.outbound.len) → (i : Bool) → span.inside ≡ i → (l : Bool) → ltb (length before) span.len ≡ l → Refuses fr answer
         by (no p) i e l x =
-            let z : s.core.rings.outbound_len ≡ 0 = omega arith in
-            let a : answer ≡ Err NoFrame = pick_true _ _ (eq-eqb s.core.rings.outbound_len 0 z) in
+            let z : s.core.rings.outbound.len ≡ 0 = omega arith in
+            let a : answer ≡ Err NoFrame = pick_true _ _ (eq-eqb s.core.rings.outbound.len 0 z) in
             subst (Refuses fr) (sym a) (sym (nothing z), (refl, refl))
         by (yes p) false e l x =
-            let a : answer ≡ Err PartOutside = pick_false _ _ (ne_eqb s.core.rings.outbound_len 0 (λ z. omega arith)) ∙ pick_false _ _ e in
+            let a : answer ≡ Err PartOutside = pick_false _ _ (ne_eqb s.core.rings.outbound.len 0 (λ z. omega arith)) ∙ pick_false _ _ e in
             subst (Refuses fr) (sym a) (sym (outside p e), (refl, refl))
         by (yes p) true e true x =
             let a : answer ≡ Err TooShort =
-            pick_false _ _ (ne_eqb s.core.rings.outbound_len 0 (λ z. omega arith)) ∙ pick_true _ _ e ∙ pick_true _ _ x in
+            pick_false _ _ (ne_eqb s.core.rings.outbound.len 0 (λ z. omega arith)) ∙ pick_true _ _ e ∙ pick_true _ _ x in
             subst (Refuses fr) (sym a) (sym (too_short p e x), (refl, refl))
         by (yes p) true e false x =
             let a : answer ≡ (Ok tt) =
-            pick_false _ _ (ne_eqb s.core.rings.outbound_len 0 (λ z. omega arith)) ∙ pick_true _ _ e ∙ pick_false _ _ x in
+            pick_false _ _ (ne_eqb s.core.rings.outbound.len 0 (λ z. omega arith)) ∙ pick_true _ _ e ∙ pick_false _ _ x in
             differ (not_refused (is_done answer) t (ap is_done a))
 
     -- the payload can be written
@@ -445,18 +445,18 @@ module _ (s : ProducerState) (f : Full s) (d : FrameRecord) where
     -- ── from what the code has worked out ──
 
     abbrev held_first : ℕ → List SingleMessage
-    held_first count = ring 512 s.held s.core.rings.held_head count
+    held_first count = ring 512 s.held s.core.rings.held.head count
 
-    module _ (got : Span) (count : ℕ) (ce : count ≡ held_count kind s.core.rings.held_len) (se : got ≡ span_of (length store) front_of kind (held_first count)) where
-      as_planned : (P : Span → ℕ → Type 0) → P span (held_count kind s.core.rings.held_len) → P got count
+    module _ (got : Span) (count : ℕ) (ce : count ≡ held_count kind s.core.rings.held.len) (se : got ≡ span_of (length store) front_of kind (held_first count)) where
+      as_planned : (P : Span → ℕ → Type 0) → P span (held_count kind s.core.rings.held.len) → P got count
       as_planned P q =
           subst (λ (c : ℕ). (x : Span) → x ≡ span_of (length store) front_of kind (held_first c) → P x c) (sym ce)
-          (λ x e. subst (λ (y : Span). P y (held_count kind s.core.rings.held_len)) (sym e) q) got se
+          (λ x e. subst (λ (y : Span). P y (held_count kind s.core.rings.held.len)) (sym e) q) got se
 
       module _ (plan : TakePlan) (pe : plan ≡ take_planned s.core front_of got count (length before)) where
-        planned_is : plan ≡ take_planned s.core front_of span (held_count kind s.core.rings.held_len) (length before)
+        planned_is : plan ≡ take_planned s.core front_of span (held_count kind s.core.rings.held.len) (length before)
         planned_is =
-            as_planned (λ x c. plan ≡ take_planned s.core front_of x c (length before) → plan ≡ take_planned s.core front_of span (held_count kind s.core.rings.held_len) (length before))
+            as_planned (λ x c. plan ≡ take_planned s.core front_of x c (length before) → plan ≡ take_planned s.core front_of span (held_count kind s.core.rings.held.len) (length before))
             (λ e. e) pe
 
         pub takes_refused : plan.done ≡ false → Takes store before before (record { answer = plan.answer; frame = plan.frame; state = s })

@@ -53,11 +53,11 @@ module _ (s : ProducerState) (f : Full s) where
         settings = c.settings;
         ids = c.ids;
         counters = c.counters;
-        pending = ring 256 (entries s.pending_ids s.pending_marks s.pending) k.pending_head k.pending_len;
+        pending = ring 256 (entries s.pending_ids s.pending_marks s.pending) k.pending.head k.pending.len;
         out = record {
-          frames = ring_onto 1024 p1024 s.outbound f.outbound k.outbound_head k.outbound_len true r j;
+          frames = ring_onto 1024 p1024 s.outbound f.outbound k.outbound.head k.outbound.len true r j;
           waiting = add_sat k.waiting n;
-          held = ring 512 s.held k.held_head k.held_len;
+          held = ring 512 s.held k.held.head k.held.len;
           batch = c.batch;
         };
       }
@@ -74,11 +74,11 @@ module _ (s : ProducerState) (f : Full s) where
         settings = c.settings;
         ids = c.ids;
         counters = c.counters;
-        pending = ring 256 (entries s.pending_ids s.pending_marks s.pending) k.pending_head k.pending_len;
+        pending = ring 256 (entries s.pending_ids s.pending_marks s.pending) k.pending.head k.pending.len;
         out = record {
-          frames = ring 1024 s.outbound k.outbound_head k.outbound_len;
+          frames = ring 1024 s.outbound k.outbound.head k.outbound.len;
           waiting = k.waiting;
-          held = ring_onto 512 p512 s.held f.held k.held_head k.held_len true m j;
+          held = ring_onto 512 p512 s.held f.held k.held.head k.held.len true m j;
           batch = c.batch;
         };
       }
@@ -93,9 +93,9 @@ module _ (s : ProducerState) (f : Full s) where
       let place = entry_place k in
       let id = c.ids.next_sequence_id in
       let e =
-      ap (λ (l : List OpSend). ring 256 l k.pending_head place.len)
+      ap (λ (l : List OpSend). ring 256 l k.pending.head place.len)
       (entries_set_if place.put s.pending_ids s.pending_marks s.pending place.at id 1 p)
-      ∙ ring_onto 256 p256 all all_length k.pending_head k.pending_len true (entry_of id 1 p) in
+      ∙ ring_onto 256 p256 all all_length k.pending.head k.pending.len true (entry_of id 1 p) in
       λ j.
       record {
         handle = c.handle;
@@ -104,18 +104,18 @@ module _ (s : ProducerState) (f : Full s) where
         counters = c.counters;
         pending = e j;
         out = record {
-          frames = ring 1024 s.outbound k.outbound_head k.outbound_len;
+          frames = ring 1024 s.outbound k.outbound.head k.outbound.len;
           waiting = k.waiting;
-          held = ring 512 s.held k.held_head k.held_len;
+          held = ring 512 s.held k.held.head k.held.len;
           batch = c.batch;
         };
       }
 
   -- how many the definition sees
-  pub held_length : length (view s).out.held ≡ min s.core.rings.held_len 512
+  pub held_length : length (view s).out.held ≡ min s.core.rings.held.len 512
   unfolding view
-  held_length = length_ring 512 p512 s.held f.held s.core.rings.held_head s.core.rings.held_len
+  held_length = length_ring 512 p512 s.held f.held s.core.rings.held.head s.core.rings.held.len
 
-  pub pending_length : length (view s).pending ≡ min s.core.rings.pending_len 256
+  pub pending_length : length (view s).pending ≡ min s.core.rings.pending.len 256
   unfolding view all
-  pending_length = length_ring 256 p256 all all_length s.core.rings.pending_head s.core.rings.pending_len
+  pending_length = length_ring 256 p256 all all_length s.core.rings.pending.head s.core.rings.pending.len

@@ -26,8 +26,8 @@ with_slots slots s =
 -- the entry at a place is gone, and those behind it have moved up
 pub record GapClosed (place : ℕ) (before after : ProducerState) : Type 0 where
   pub same : after ≡ with_slots after before
-  pub moved : ring 256 (slots_of after) before.core.rings.pending_head (min before.core.rings.pending_len 256 - 1)
-      ≡ without (ring 256 (slots_of before) before.core.rings.pending_head before.core.rings.pending_len) place
+  pub moved : ring 256 (slots_of after) before.core.rings.pending.head (min before.core.rings.pending.len 256 - 1)
+      ≡ without (ring 256 (slots_of before) before.core.rings.pending.head before.core.rings.pending.len) place
 
 -- no entry keeps the id in the index
 abbrev pub unmarked : ℕ → ProducerState → ProducerState

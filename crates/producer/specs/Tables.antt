@@ -55,7 +55,7 @@ gone_of (Some time) q = take (due_count time q.settings.delays.send_timeout q.pe
 -- how many of the entries, listed in es, a drain hands out
 abbrev pub plan_of : Option ℕ → List OpSend → ℕ → ProducerState → Handout
 plan_of due es room s =
-    handout_of (gone_count due s.core.settings.delays.send_timeout (take (min s.core.rings.pending_len 256) es)) room
+    handout_of (gone_count due s.core.settings.delays.send_timeout (take (min s.core.rings.pending.len 256) es)) room
 
 abbrev pub drained_state : Option ℕ → List OpSend → Handout → ProducerState → ProducerState
 drained_state due es p s =

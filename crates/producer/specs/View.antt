@@ -29,11 +29,11 @@ view s =
       settings = c.settings;
       ids = c.ids;
       counters = c.counters;
-      pending = ring 256 (slots_of s) r.pending_head r.pending_len;
+      pending = ring 256 (slots_of s) r.pending.head r.pending.len;
       out = record {
-        frames = ring 1024 s.outbound r.outbound_head r.outbound_len;
+        frames = ring 1024 s.outbound r.outbound.head r.outbound.len;
         waiting = r.waiting;
-        held = ring 512 s.held r.held_head r.held_len;
+        held = ring 512 s.held r.held.head r.held.len;
         batch = c.batch;
       };
     }

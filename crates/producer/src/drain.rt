@@ -34,7 +34,7 @@ impl ProducerState {
     fn plan_drain(&self, due: Option<u64>, entries: [OpSend; 256], room: usize) -> Handout
         ensures { result ≡ plan_of due entries room self.now }
     {
-        let n = at_most(self.core.rings.pending_len, 256);
+        let n = at_most(self.core.rings.pending.len, 256);
         let c = self.core;
         let settings = c.settings;
         let delays = settings.delays;
@@ -101,7 +101,7 @@ impl ProducerState {
         ensures { PickedFrom batched (view self.now).pending result }
     {
         let entries = self.entries();
-        let n = at_most(self.core.rings.pending_len, 256);
+        let n = at_most(self.core.rings.pending.len, 256);
         picked(entries, n, batched)
     }
 

@@ -10,10 +10,10 @@ use types::entry::OpSend;
 impl ProducerState {
     // The oldest first. What stands behind the last means nothing.
     pub(crate) fn entries(&self) -> [OpSend; 256]
-        ensures { take (min self.now.core.rings.pending_len 256) result ≡ (view self.now).pending }
+        ensures { take (min self.now.core.rings.pending.len 256) result ≡ (view self.now).pending }
     {
-        let head = self.core.rings.pending_head % 256;
-        let n = at_most(self.core.rings.pending_len, 256);
+        let head = self.core.rings.pending.head % 256;
+        let n = at_most(self.core.rings.pending.len, 256);
         let any = self.op_at(0);
         let mut all = [any; 256];
         let mut i: usize = 0;

@@ -13,7 +13,7 @@ impl ProducerState {
     pub fn next_send_deadline(self) -> Option<u64>
         ensures { result ≡ next_send_deadline (view self) }
     {
-        let at = self.core.rings.pending_head % 256;
+        let at = self.core.rings.pending.head % 256;
         let front = self.pending[at];
         let c = self.core;
         c.next_send_deadline(front.enqueued_at)
@@ -54,6 +54,6 @@ impl ProducerState {
         ensures { result ≡ stats (view self) }
     {
         let counters = self.core.counters;
-        stats_of(counters, self.core.rings.pending_len)
+        stats_of(counters, self.core.rings.pending.len)
     }
 }

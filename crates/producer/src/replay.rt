@@ -84,10 +84,10 @@ impl ProducerState {
 
     // The ids of the waiting frames.
     fn waiting_ids(&self) -> [u64; 1024]
-        ensures { take (min self.now.core.rings.outbound_len 1024) result ≡ map frame_id (view self.now).out.frames }
+        ensures { take (min self.now.core.rings.outbound.len 1024) result ≡ map frame_id (view self.now).out.frames }
     {
-        let head = self.core.rings.outbound_head % 1024;
-        let n = at_most(self.core.rings.outbound_len, 1024);
+        let head = self.core.rings.outbound.head % 1024;
+        let n = at_most(self.core.rings.outbound.len, 1024);
         let mut ids: [u64; 1024] = [0; 1024];
         let mut i: usize = 0;
         while i < n {
@@ -105,8 +105,8 @@ impl ProducerState {
         ensures answer_value { (view result.state, told result.answer) ≡ replay_pending_outbound (view self) }
         ensures kept { Kept (told result.answer) self result.state }
     {
-        let n = at_most(self.core.rings.pending_len, 256);
-        let m = at_most(self.core.rings.outbound_len, 1024);
+        let n = at_most(self.core.rings.pending.len, 256);
+        let m = at_most(self.core.rings.outbound.len, 1024);
         let ops = self.entries();
         let ids = self.waiting_ids();
         let left = unborne(&ids, m, ops, n);

@@ -56,11 +56,11 @@ pub(crate) fn op_of(id: u64, mark: u8, publish: Publish) -> OpSend
 impl ProducerState {
     // The entries behind a place move up by one.
     fn close_gap(mut self, place: usize) -> ProducerState
-        requires { place < min self.core.rings.pending_len 256 }
+        requires { place < min self.core.rings.pending.len 256 }
         ensures { GapClosed place self result }
     {
-        let head = self.core.rings.pending_head % 256;
-        let n = at_most(self.core.rings.pending_len, 256);
+        let head = self.core.rings.pending.head % 256;
+        let n = at_most(self.core.rings.pending.len, 256);
         let mut i = place;
         while i < n - 1 {
             let from = (head + (i + 1)) % 256;
@@ -78,7 +78,7 @@ impl ProducerState {
 
     // The entry at a place leaves.
     fn remove(mut self, place: usize) -> ProducerState
-        requires { place < min self.core.rings.pending_len 256 }
+        requires { place < min self.core.rings.pending.len 256 }
         ensures { view result ≡ with_pending (without (view self).pending place) (view self) }
     {
         let c = self.core;
@@ -95,10 +95,10 @@ impl ProducerState {
 
     // Where the first entry stands that bears the id, if the id is answerable.
     fn place_of(&self, id: u64) -> Option<usize>
-        ensures { result ≡ located id (ring 256 (keys self.now.pending_ids self.now.pending_marks) self.now.core.rings.pending_head self.now.core.rings.pending_len) }
+        ensures { result ≡ located id (ring 256 (keys self.now.pending_ids self.now.pending_marks) self.now.core.rings.pending.head self.now.core.rings.pending.len) }
     {
-        let head = self.core.rings.pending_head;
-        let len = self.core.rings.pending_len;
+        let head = self.core.rings.pending.head;
+        let len = self.core.rings.pending.len;
         locate(&self.pending_ids, &self.pending_marks, head, len, id)
     }
 
@@ -106,7 +106,7 @@ impl ProducerState {
         requires { place < 256 }
         ensures { slice_index_or (view self.now).pending place result ≡ result }
     {
-        let at = (self.core.rings.pending_head % 256 + place) % 256;
+        let at = (self.core.rings.pending.head % 256 + place) % 256;
         let publish = self.pending[at];
         let id = self.pending_ids[at];
         let mark = self.pending_marks[at];

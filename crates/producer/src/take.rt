@@ -26,13 +26,13 @@ impl ProducerState {
         ensures buffer_after { buffer.new ≡ written (told_frame store.now buffer.new result) buffer.old }
         ensures kept { Kept (told_frame store.now buffer.new result) self result.state }
     {
-        let at = self.core.rings.outbound_head % 1024;
+        let at = self.core.rings.outbound.head % 1024;
         let front = self.outbound[at];
         let kind = front.kind;
         let c = self.core;
         let held = self.held;
-        let head = self.core.rings.held_head;
-        let count = held_count(kind, self.core.rings.held_len);
+        let head = self.core.rings.held.head;
+        let count = held_count(kind, self.core.rings.held.len);
         let span = payload_span(front, held, head, count, store.len());
         let plan = c.plan_take(front, span, count, buffer.len());
         let answer = plan.answer;

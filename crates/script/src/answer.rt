@@ -479,7 +479,7 @@ fn put_waiting(out: &mut [u8], at: usize, c: Core) -> usize
     let counters = c.counters;
     let counted = put_counters(out, at, counters);
     let a = put_usize(out, counted, rings.waiting);
-    let b = put_usize(out, a, at_most(rings.held_len, 512));
+    let b = put_usize(out, a, at_most(rings.held.len, 512));
     put_batch(out, b, batch)
 }
 

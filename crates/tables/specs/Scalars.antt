@@ -13,18 +13,18 @@ use Rattle.rules.specs.declared.rings.Rings.{Rings}
 abbrev pub core_without_front : ℕ → Core → Core
 core_without_front n c =
     let r = c.rings in
-    let len = min r.pending_len 256 in
-    core_rings (pending_ring (slot 256 r.pending_head (min n len)) (len - min n len) r) c
+    let len = min r.pending.len 256 in
+    core_rings (pending_ring (slot 256 r.pending.head (min n len)) (len - min n len) r) c
 
 abbrev pub rings_emptied : Rings → Rings
 rings_emptied r =
     record {
-      outbound_head = r.outbound_head;
+      outbound_head = r.outbound.head;
       outbound_len = 0;
       waiting = 0;
-      held_head = r.held_head;
+      held_head = r.held.head;
       held_len = 0;
-      pending_head = r.pending_head;
+      pending_head = r.pending.head;
       pending_len = 0;
     }
 

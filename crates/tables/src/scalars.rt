@@ -11,12 +11,12 @@ pub fn without_front(c: Core, n: usize) -> Core
     ensures { result ≡ core_without_front n c }
 {
     let mut left = c;
-    let len = at_most(c.rings.pending_len, 256);
+    let len = at_most(c.rings.pending.len, 256);
     let k = at_most(n, len);
-    let head = (c.rings.pending_head % 256 + k) % 256;
+    let head = (c.rings.pending.head % 256 + k) % 256;
     let rest = len - k;
-    left.rings.pending_head = head;
-    left.rings.pending_len = rest;
+    left.rings.pending.head = head;
+    left.rings.pending.len = rest;
     left
 }
 
@@ -27,10 +27,10 @@ pub fn emptied(c: Core) -> Core
     let mut left = c;
     let batch = BatchContainer::empty();
     left.batch = batch;
-    left.rings.outbound_len = 0;
+    left.rings.outbound.len = 0;
     left.rings.waiting = 0;
-    left.rings.held_len = 0;
-    left.rings.pending_len = 0;
+    left.rings.held.len = 0;
+    left.rings.pending.len = 0;
     left
 }
 

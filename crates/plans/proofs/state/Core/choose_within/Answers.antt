@@ -14,8 +14,8 @@ module _ (m : OutgoingMessage) (c : Core) {w : Way} (e : w ≡ way_of c.settings
   -- by the tests, each as the code has it and with what it gave
   by : {n : ℕ} {r4 r5 r7 b4 b5 b7 : Bool} → n ≡ pushes w
       → r4 ≡ ltb 1024 (c.rings.waiting + n) → r4 ≡ b4
-      → r5 ≡ joins w && leb 512 (min c.rings.held_len 512) → r5 ≡ b5
-      → r7 ≡ not (is_too_large w) && leb 256 (min c.rings.pending_len 256) → r7 ≡ b7
+      → r5 ≡ joins w && leb 512 (min c.rings.held.len 512) → r5 ≡ b5
+      → r7 ≡ not (is_too_large w) && leb 256 (min c.rings.pending.len 256) → r7 ≡ b7
       → pick b4 (Err OutboundFull) (pick b5 (Err HeldFull) (pick b7 (Err PendingFull) (Ok w))) ≡ chosen_within m c
   unfolding chosen_within
   by en q4 e4 q5 e5 q7 e7 =

@@ -8,8 +8,8 @@ use Rattle.types.specs.declared.way.Way.{Way}
 
 pub returns-in-Err : goal.returns-in-Err
 unfolding planned
-returns-in-Err c = let a = c.args in c.refuse.ensures ∙ ap (λ (p : Result Way ProducerError). plan_out p a.a a.self) (sym c.in-Err.is ∙ c.choose-plan.ensures)
+returns-in-Err c = let a = c.args in c.refuse.ensures ∙ ap (λ (p : Result Way ProducerError). plan_out p a.a a.self) (sym c.in-Err.is ∙ c.choose.ensures)
 
 pub returns-in-Ok : goal.returns-in-Ok
 unfolding planned
-returns-in-Ok c = let a = c.args in c.follow.ensures ∙ ap (λ (p : Result Way ProducerError). plan_out p a.a a.self) (sym c.in-Ok.is ∙ c.choose-plan.ensures)
+returns-in-Ok c = let a = c.args in c.follow.ensures ∙ ap (λ (p : Result Way ProducerError). plan_out p a.a a.self) (sym c.in-Ok.is ∙ c.choose.ensures)

@@ -16,7 +16,7 @@ put_payload-requires c =
     let count = c.held_count-count in
     let got = c.payload_span-span in
     let plan = c.plan_take-plan in
-    (subst (λ (k : ℕ). k ≤ 512) (sym count.ensures) (count_small (front_of s f _).kind s.core.rings.held_len), takes_writable s f _ store before small short got.result count.result count.ensures got.ensures plan.result plan.ensures c.if-plan.true)
+    (subst (λ (k : ℕ). k ≤ 512) (sym count.ensures) (count_small (front_of s f _).kind s.core.rings.held.len), takes_writable s f _ store before small short got.result count.result count.ensures got.ensures plan.result plan.ensures c.if-plan.true)
 
 pub returns-then-plan : goal.returns-then-plan
 returns-then-plan c =

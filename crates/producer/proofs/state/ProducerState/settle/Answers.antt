@@ -16,18 +16,18 @@ use Rattle.producer.proofs.state.ProducerState.settle.Goals as goal
 -- a place that was found, against each of the lengths in question
 record InRange (s : ProducerState) (i : ℕ) : Type 0 where
   listed : i < length (view s).pending
-  entry : i < min s.core.rings.pending_len 256
+  entry : i < min s.core.rings.pending.len 256
   small : i < 256
 
 in_range : (s : ProducerState) → Good s → (id : ℕ) (r : Option ℕ) → r ≡ located id (map key_of (view s).pending) → (i : ℕ) → r ≡ Some i → InRange s i
 in_range s g id r e i at =
     let b : i < length (map key_of (view s).pending) = located_below id (map key_of (view s).pending) i (sym e ∙ at) in
     let l : length (map key_of (view s).pending) ≡ length (view s).pending = length-map (view s).pending key_of in
-    let m : length (view s).pending ≡ min s.core.rings.pending_len 256 = length_view s (full s g) in
+    let m : length (view s).pending ≡ min s.core.rings.pending.len 256 = length_view s (full s g) in
     record { listed = omega arith; entry = omega arith; small = omega arith }
 
 -- what is searched are the keys of the pending entries
-placed : (s : ProducerState) → Good s → (id : ℕ) (r : Option ℕ) → r ≡ located id (ring 256 (keys s.pending_ids s.pending_marks) s.core.rings.pending_head s.core.rings.pending_len)
+placed : (s : ProducerState) → Good s → (id : ℕ) (r : Option ℕ) → r ≡ located id (ring 256 (keys s.pending_ids s.pending_marks) s.core.rings.pending.head s.core.rings.pending.len)
     → r ≡ located id (map key_of (view s).pending)
 placed s g id r e = e ∙ ap (located id) (sym (keys_view s (full s g)))
 
