@@ -8,7 +8,3 @@ use Rattle.types.specs.declared.error.ProducerError.{ProducerError}
 abbrev pub answer_of : ℕ → Span → ℕ → Result (Unit {0}) ProducerError
 answer_of frames s room =
     pick (eqb frames 0) (Err NoFrame) (pick s.inside (pick (ltb room s.len) (Err TooShort) (Ok tt)) (Err PartOutside))
-
-abbrev pub is_done : Result (Unit {0}) ProducerError → Bool
-is_done (Ok tt) = true
-is_done (Err e) = false

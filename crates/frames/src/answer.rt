@@ -1,6 +1,6 @@
 // What a take answers.
 ghost use Rattle.std.specs.Prelude.{◌≡◌};
-ghost use Rattle.frames.specs.Answer.{answer_of, is_done};
+ghost use Rattle.frames.specs.Answer.{answer_of};
 
 use crate::span::Span;
 use types::error::ProducerError;
@@ -19,14 +19,5 @@ pub fn answer_of(frames: usize, span: Span, room: usize) -> Result<(), ProducerE
         }
     } else {
         Err(ProducerError::PartOutside)
-    }
-}
-
-pub fn is_done(answer: Result<(), ProducerError>) -> bool
-    ensures { result ≡ is_done answer }
-{
-    match answer {
-        Ok(()) => true,
-        Err(_) => false,
     }
 }

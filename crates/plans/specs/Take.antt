@@ -1,11 +1,10 @@
 -- What the plan of a take answers. These mirror the code: what a reader must believe is in crate `queue`.
-use Rattle.std.specs.Prelude.{ℕ, ◌+◌, ◌-◌, ◌%◌, min, Bool, Result}
+use Rattle.std.specs.Prelude.{ℕ, ◌+◌, ◌-◌, ◌%◌, min, Bool, Err, Ok, Result}
 use Rattle.laws.specs.Choice.{pick}
 use Rattle.types.specs.declared.frame.FrameRecord.{FrameRecord}
-use Rattle.types.specs.declared.outbound.OutboundFrame.{OutboundFrame}
 use Rattle.rules.specs.declared.rings.Rings.{Rings}
 use Rattle.frames.specs.declared.span.Span.{Span}
-use Rattle.frames.specs.Answer.{answer_of, is_done}
+use Rattle.frames.specs.Answer.{answer_of}
 use Rattle.frames.specs.Outbound.{frame_out}
 use Rattle.frames.specs.After.{stays_of, record_after}
 use Rattle.plans.specs.declared.state.Core.{Core}
@@ -35,10 +34,14 @@ rings_taken stays count r =
 abbrev pub core_taken : Bool → ℕ → Core → Core
 core_taken stays count c = core_rings (rings_taken stays count c.rings) c
 
-abbrev pub plan_with : Result (Unit {0}) ProducerError → Core → FrameRecord → OutboundFrame → TakePlan
-plan_with answer core r frame = record { answer = answer; done = is_done answer; core = core; slot = r; frame = frame }
+abbrev pub plan_with : Result (Unit {0}) ProducerError → TakePlan → Result TakePlan ProducerError
+plan_with (Ok x) p = Ok p
+plan_with (Err e) p = Err e
 
-abbrev pub take_planned : Core → FrameRecord → Span → ℕ → ℕ → TakePlan
+abbrev pub take_planned : Core → FrameRecord → Span → ℕ → ℕ → Result TakePlan ProducerError
 take_planned c r s count room =
-    plan_with (answer_of c.rings.outbound.len s room) (core_taken (stays_of r.kind) count c) (record_after r r.kind)
-    (frame_out c.handle r r.kind s.len)
+    plan_with (answer_of c.rings.outbound.len s room) (record {
+      core = core_taken (stays_of r.kind) count c;
+      slot = record_after r r.kind;
+      frame = frame_out c.handle r r.kind s.len;
+    })

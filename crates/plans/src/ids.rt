@@ -11,29 +11,24 @@ impl Core {
     pub fn next_send_deadline(self, enqueued_at: u64) -> Option<u64>
         ensures { result ≡ send_deadline_of self enqueued_at }
     {
-        let settings = self.settings;
-        let delays = settings.delays;
-        let timeout = delays.send_timeout;
-        let deadline = after(timeout, enqueued_at);
+        let deadline = after(self.settings.delays.send_timeout, enqueued_at);
         unless_none(self.rings.pending.len, deadline)
     }
 
     pub fn next_batch_deadline(self) -> Option<u64>
         ensures { result ≡ batch_deadline_of self }
     {
-        let settings = self.settings;
-        let delays = settings.delays;
-        let delay = delays.batching_max_publish_delay;
+        let delay = self.settings.delays.batching_max_publish_delay;
         let deadline = after(delay, self.batch.first_added_at);
         unless_none(self.batch.len, deadline)
     }
 
-    pub fn set_initial_sequence_id(mut self, next: u64) -> Core
+    pub fn set_initial_sequence_id(self, next: u64) -> Core
         ensures { result ≡ with_initial_id next self }
     {
-        let before = self.ids;
-        let ids = initial_ids(before, next);
-        self.ids = ids;
-        self
+        Core {
+            ids: initial_ids(self.ids, next),
+            ..self
+        }
     }
 }

@@ -1,65 +1,47 @@
-// Settings (document 01, 'Who can cause a refusal', setup).
+// Settings (document 01, 'Who can cause a refusal', setup). A refusal gives no scalars: those before it stay.
 ghost use Rattle.std.specs.Prelude.{◌≡◌};
 ghost use Rattle.plans.specs.Settings.{set_planned, name_planned, closed_core};
 
 use crate::state::Core;
 use types::error::ProducerError;
-use types::settings::Setting;
+use types::settings::{ProducerSettings, Setting};
 use upkeep::settings::{allows, allows_name, closed_settings, name_from, with_setting};
 
-#[derive(Clone, Copy)]
-pub struct SetPlan {
-    pub answer: Result<(), ProducerError>,
-    pub core: Core,
-}
-
 impl Core {
-    pub fn set_name(mut self, name: &[u8]) -> SetPlan
+    pub fn set_name(self, name: &[u8]) -> Result<Core, ProducerError>
         ensures { result ≡ name_planned name.now self }
     {
         if allows_name(name.len()) {
-            let n = name_from(name);
-            let mut settings = self.settings;
-            settings.name = n;
-            self.settings = settings;
-            SetPlan {
-                answer: Ok(()),
-                core: self,
-            }
+            let settings = ProducerSettings {
+                name: name_from(name),
+                ..self.settings
+            };
+            Ok(Core { settings, ..self })
         } else {
-            SetPlan {
-                answer: Err(ProducerError::SettingOverBound),
-                core: self,
-            }
+            Err(ProducerError::SettingOverBound)
         }
     }
 
-    pub fn set(mut self, s: Setting) -> SetPlan
+    pub fn set(self, s: Setting) -> Result<Core, ProducerError>
         ensures { result ≡ set_planned s self }
     {
         if allows(s) {
-            let t = self.settings;
-            let settings = with_setting(t, s);
-            self.settings = settings;
-            SetPlan {
-                answer: Ok(()),
-                core: self,
-            }
+            Ok(Core {
+                settings: with_setting(self.settings, s),
+                ..self
+            })
         } else {
-            SetPlan {
-                answer: Err(ProducerError::SettingOverBound),
-                core: self,
-            }
+            Err(ProducerError::SettingOverBound)
         }
     }
 
     // For good.
-    pub fn close(mut self) -> Core
+    pub fn close(self) -> Core
         ensures { result ≡ closed_core self }
     {
-        let t = self.settings;
-        let settings = closed_settings(t);
-        self.settings = settings;
-        self
+        Core {
+            settings: closed_settings(self.settings),
+            ..self
+        }
     }
 }

@@ -6,7 +6,6 @@ ghost use Rattle.plans.specs.Way.{left_core};
 use crate::state::Core;
 use rules::batch::same_txn;
 use rules::chunks::cut_of;
-use rules::numbers::saturating_add;
 use types::batch::BatchContainer;
 use types::message::OutgoingMessage;
 use types::way::Way;
@@ -23,22 +22,22 @@ impl Core {
     fn flushes_before(self, m: OutgoingMessage) -> bool
         ensures { result ≡ flushes_before self.settings m self.batch }
     {
-        let b = self.batch;
-        let waiting = b.txn_id;
-        let incoming = m.txn_id;
-        let waits = b.len != 0;
-        let other = waits & self.settings.switches.batching_enabled & !same_txn(waiting, incoming);
+        let waits = self.batch.len != 0;
+        let other = waits
+            & self.settings.switches.batching_enabled
+            & !same_txn(self.batch.txn_id, m.txn_id);
         other | (waits & !self.may_join(m))
     }
 
     // With the batch that is left once it was flushed or not.
-    fn left(mut self, flush: bool) -> Core
+    fn left(self, flush: bool) -> Core
         ensures { result ≡ left_core flush self }
     {
         if flush {
-            let empty = BatchContainer::empty();
-            self.batch = empty;
-            self
+            Core {
+                batch: BatchContainer::empty(),
+                ..self
+            }
         } else {
             self
         }
@@ -50,25 +49,24 @@ impl Core {
         ensures { result ≡ way_into self.settings m before self.batch }
     {
         let large = self.is_large(m);
-        let refused = large & !self.settings.switches.chunking_enabled;
-        if refused {
-            Way::TooLarge { before: before }
+        if large & !self.settings.switches.chunking_enabled {
+            Way::TooLarge { before }
         } else if self.may_join(m) {
-            let count = saturating_add(self.batch.len, 1);
-            let size = saturating_add(self.batch.current_size_bytes, m.payload.len);
+            let count = self.batch.len.saturating_add(1);
+            let size = self.batch.current_size_bytes.saturating_add(m.payload.len);
             Way::Join {
-                before: before,
+                before,
                 after: self.is_full(count, size),
             }
         } else if large {
             let cut = cut_of(m.payload.len, self.settings.limits.max_message_size);
             Way::Chunked {
-                before: before,
+                before,
                 max_chunk_size: cut.max_chunk_size,
                 total_chunks: cut.total_chunks,
             }
         } else {
-            Way::Single { before: before }
+            Way::Single { before }
         }
     }
 
@@ -78,7 +76,6 @@ impl Core {
         ensures { result ≡ way_of self.settings m self.batch }
     {
         let before = self.flushes_before(m);
-        let left = self.left(before);
-        left.way_into(m, before)
+        self.left(before).way_into(m, before)
     }
 }

@@ -24,8 +24,3 @@ only_next next i =
 
 abbrev pub initial_ids : ℕ → SequenceIds → SequenceIds
 initial_ids next i = pick (ltb 0 next) (both next (before_next next)) (only_next next i)
-
--- a refused receipt leaves them
-abbrev pub published_if : Result (Unit {0}) ProducerError → ℕ → SequenceIds → SequenceIds
-published_if (Ok tt) id i = published id i
-published_if (Err e) id i = i

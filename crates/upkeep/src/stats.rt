@@ -1,11 +1,10 @@
 // Counters and ids (document 01, 'ids and clocks').
 ghost use Rattle.std.specs.Prelude.{◌≡◌};
 ghost use Rattle.queue.specs.Queue.{new_ids};
-ghost use Rattle.upkeep.specs.Stats.{initial_ids, published_if, stats_of};
+ghost use Rattle.queue.specs.Ids.{published};
+ghost use Rattle.upkeep.specs.Stats.{initial_ids, stats_of};
 
-use rules::numbers::at_most;
 use rules::rings::Rings;
-use types::error::ProducerError;
 use types::signed::{saturating_sub_one, signed_of};
 use types::stats::{Counters, ProducerStats, SequenceIds};
 
@@ -13,10 +12,9 @@ use types::stats::{Counters, ProducerStats, SequenceIds};
 pub fn stats_of(counters: Counters, pending_len: usize) -> ProducerStats
     ensures { result ≡ stats_of counters pending_len }
 {
-    let n = at_most(pending_len, 256);
     ProducerStats {
-        counters: counters,
-        pending_queue_size: n as u64,
+        counters,
+        pending_queue_size: pending_len.min(Rings::PENDING) as u64,
     }
 }
 
@@ -51,20 +49,12 @@ pub fn initial_ids(mut ids: SequenceIds, next: u64) -> SequenceIds
     ids
 }
 
-// A receipt's id becomes the published number, unless the receipt was refused.
-pub fn published_ids(
-    mut ids: SequenceIds,
-    answer: Result<(), ProducerError>,
-    id: u64,
-) -> SequenceIds
-    ensures { result ≡ published_if answer id ids }
+// A receipt's id becomes the published number.
+pub fn published_ids(ids: SequenceIds, id: u64) -> SequenceIds
+    ensures { result ≡ published id ids }
 {
-    match answer {
-        Ok(()) => {
-            let published = signed_of(id);
-            ids.last_sequence_id_published = published;
-            ids
-        }
-        Err(_) => ids,
+    SequenceIds {
+        last_sequence_id_published: signed_of(id),
+        ..ids
     }
 }
