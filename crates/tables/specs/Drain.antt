@@ -1,11 +1,12 @@
 -- What the steps of a drain answer. These mirror the code, or speak of arrays where crate `queue` speaks of entries.
-use Rattle.std.specs.Prelude.{ℕ, Bool, List, [], ◌∷◌, length, nat_lt, None, Option, Some}
+use Rattle.std.specs.Prelude.{ℕ, Bool, List, [], ◌∷◌, length, nat_lt, Err, None, Ok, Option, Result, Some}
 use Rattle.laws.specs.Choice.{pick}
 use Rattle.types.specs.declared.entry.OpSend.{OpSend}
 use Rattle.queue.specs.Ids.{send_deadline, elapsed}
 use Rattle.queue.specs.Settle.{due_count}
 use Rattle.upkeep.specs.Pending.{cleared_all}
-use Rattle.tables.specs.declared.drain.Handout.{Handout}
+use Rattle.types.specs.declared.error.ProducerError.{ProducerError}
+use Rattle.types.specs.declared.error.ProducerError.TheVariants.{TooShort}
 
 abbrev pub is_due : ℕ → Option ℕ → OpSend → Bool
 is_due time timeout op = elapsed time (send_deadline timeout op)
@@ -15,9 +16,9 @@ abbrev pub gone_count : Option ℕ → Option ℕ → List OpSend → ℕ
 gone_count None timeout l = length l
 gone_count (Some time) timeout l = due_count time timeout l
 
--- as many as there are, or none where the table is too short
-abbrev pub handout_of : ℕ → ℕ → Handout
-handout_of count room = record { count = count; write = pick (nat_lt room count) 0 count }
+-- as many as there are, or 9 where the table is too short
+abbrev pub handout_of : ℕ → ℕ → Result ℕ ProducerError
+handout_of count room = pick (nat_lt room count) (Err TooShort) (Ok count)
 
 -- no entry keeps one of the ids in the index
 abbrev pub cleared_each : List OpSend → List ℕ → List ℕ → List ℕ

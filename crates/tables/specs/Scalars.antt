@@ -19,13 +19,10 @@ core_without_front n c =
 abbrev pub rings_emptied : Rings → Rings
 rings_emptied r =
     record {
-      outbound_head = r.outbound.head;
-      outbound_len = 0;
+      outbound = record { head = r.outbound.head; len = 0 };
       waiting = 0;
-      held_head = r.held.head;
-      held_len = 0;
-      pending_head = r.pending.head;
-      pending_len = 0;
+      held = record { head = r.held.head; len = 0 };
+      pending = record { head = r.pending.head; len = 0 };
     }
 
 abbrev pub core_emptied : Core → Core

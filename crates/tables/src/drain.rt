@@ -4,23 +4,18 @@ ghost use Rattle.queue.specs.Settle.{due_count};
 ghost use Rattle.tables.specs.Drain.{cleared_each, gone_count, handout_of, is_due};
 
 use types::entry::OpSend;
+use types::error::ProducerError;
 use upkeep::deadline::{after, elapsed};
 use upkeep::pending::unmark;
 
-// So many entries are to be handed out. As many are written, or none where the table is too short for all.
-#[derive(Clone, Copy)]
-pub struct Handout {
-    pub count: usize,
-    pub write: usize,
-}
-
-pub fn fitted(count: usize, room: usize) -> Handout
+// So many entries are to be handed out; 9 where the table is too short for all.
+pub fn fitted(count: usize, room: usize) -> Result<usize, ProducerError>
     ensures { result ≡ handout_of count room }
 {
-    let write = if room < count { 0 } else { count };
-    Handout {
-        count: count,
-        write: write,
+    if room < count {
+        Err(ProducerError::TooShort)
+    } else {
+        Ok(count)
     }
 }
 
