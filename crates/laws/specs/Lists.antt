@@ -15,10 +15,6 @@ first_at p i (x ∷ l) = pick (p x) (Some i) (first_at p (i + 1) l)
 abbrev pub onto : {A : Type 0} → ℕ → List A → A → List A
 onto cap l x = pick (ltb (length l) cap) (l ++ x ∷ []) l
 
--- a push, or none
-abbrev pub onto_if : {A : Type 0} → Bool → ℕ → List A → A → List A
-onto_if b cap l x = pick b (onto cap l x) l
-
 -- x at the front of a list that holds at most cap; a full one stays
 abbrev pub front : {A : Type 0} → ℕ → A → List A → List A
 front cap x l = pick (ltb (length l) cap) (x ∷ l) l
@@ -28,9 +24,10 @@ abbrev pub front_all : {A : Type 0} → ℕ → List A → List A → List A
 front_all cap [] l = l
 front_all cap (x ∷ xs) l = front cap x (front_all cap xs l)
 
--- a store, or none
-abbrev pub set_if : {A : Type 0} → Bool → List A → ℕ → A → List A
-set_if b l i x = pick b (set l i x) l
+-- a store at a place, if there is one
+abbrev pub set_at : {A : Type 0} → Option ℕ → List A → A → List A
+set_at None l x = l
+set_at (Some i) l x = set l i x
 
 -- those that pass, in order
 abbrev pub keeping : {A : Type 0} → (A → Bool) → List A → List A

@@ -1,6 +1,6 @@
 -- Drains: what is planned is what the definitions hand out, and the state without it stands for their queue. Assumes nothing.
 use Rattle.std.specs.Prelude.{Err, None, Ok, Option, Some, ℕ}
-use Rattle.std.proofs.Common.{◌≡◌, ℕ, suc, ◌-◌, ◌<◌, ◌≤◌, min, Bool, true, false, ltb, List, [], ◌∷◌, map, length, take, drop, sym, refl, ap, ◌∙◌, subst, zero-le, arith, lit<, length-take-le, take_all, take-take, take_at, le-ltb, lt-ltb}
+use Rattle.std.proofs.Common.{◌≡◌, ℕ, suc, ◌-◌, ◌<◌, ◌≤◌, min, Bool, true, false, ltb, List, [], ◌∷◌, map, length, take, drop, sym, refl, ap, ◌∙◌, subst, zero-le, arith, lit<, length-take-le, take_all, take-take, take_at, le-ltb, lt-ltb, ltb-false}
 use native.Mathlib.Decide.{dec_lt}
 use Rattle.laws.specs.Choice.{pick}
 use Rattle.laws.specs.Ring.{ring, slot}
@@ -8,6 +8,7 @@ use Rattle.laws.proofs.Lists.{map_drop}
 use Rattle.laws.proofs.Rings.{ring_none, ring_map, ring_drops}
 use Rattle.types.specs.declared.entry.OpSend.{OpSend}
 use Rattle.types.specs.declared.entry.Publish.{Publish}
+use Rattle.types.specs.declared.error.ProducerError.{ProducerError}
 use Rattle.types.specs.declared.error.ProducerError.TheVariants.{TooShort}
 use Rattle.queue.specs.Queue.{Queue, refused, done, empty_outgoing, with_pending, with_out}
 use Rattle.queue.specs.Ids.{elapsed, send_deadline}
@@ -15,15 +16,14 @@ use Rattle.queue.specs.Settle.{due_count, unmark, unmark_all, hand_out, drain_ti
 use Rattle.queue.specs.Tables.{drain_pending_sends}
 use Rattle.upkeep.specs.Pending.{cleared_all}
 use Rattle.tables.specs.Drain.{cleared_each, gone_count}
-use Rattle.tables.specs.declared.drain.Handout.{Handout}
 use Rattle.tables.proofs.Blank.{blank}
 use Rattle.tables.proofs.Turns.{length_cleared}
-use Rattle.producer.specs.Tables.{Drains, gone_of, drain_of, plan_of, drained_state, drained_to}
+use Rattle.producer.specs.Tables.{Drains, gone_of, drain_of, plan_of, drained_state}
 use Rattle.producer.specs.View.{view, entries, slots_of}
-use Rattle.producer.specs.declared.send.CountAnswer.{CountAnswer}
 use Rattle.producer.specs.declared.state.ProducerState.{ProducerState}
 use Rattle.producer.proofs.Entries.{length_entries, unmarked_entries}
 use Rattle.producer.proofs.Full.{Full}
+use Rattle.producer.proofs.Plans.{ok_of, err_of}
 use Rattle.producer.proofs.Locate.{length_view}
 
 -- ── what is handed out ──
@@ -52,19 +52,21 @@ unfolding view
 timeout_is s = refl
 
 -- what is planned, against the view
-record Plans (due : Option ℕ) (room : ℕ) (s : ProducerState) (es : List OpSend) (p : Handout) : Type 0 where
-  gone : take p.count es ≡ gone_of due (view s)
-  many : p.count ≡ length (gone_of due (view s))
-  few : p.count ≤ 256
-  fits : p.write ≡ pick (ltb room p.count) 0 p.count
+module _ (s : ProducerState) (f : Full s) (due : Option ℕ) (es : List OpSend) (e : take (min s.core.rings.pending.len 256) es ≡ (view s).pending) where
+  planned_count : ℕ
+  planned_count = gone_count due s.core.settings.delays.send_timeout (take (min s.core.rings.pending.len 256) es)
 
-module _ (s : ProducerState) (f : Full s) (due : Option ℕ) (room : ℕ) (es : List OpSend) (p : Handout)
-    (e : take (min s.core.rings.pending.len 256) es ≡ (view s).pending) (h : p ≡ plan_of due es room s) where
-  plans : Plans due room s es p
+  record Plans (n : ℕ) : Type 0 where
+    gone : take n es ≡ gone_of due (view s)
+    many : n ≡ length (gone_of due (view s))
+    few : n ≤ 256
+
+  plans : Plans planned_count
+  unfolding planned_count
   plans =
       let l : length (view s).pending ≡ min s.core.rings.pending.len 256 = length_view s f in
       let most : count_of due (view s) ≤ length (view s).pending = count_most due (view s) in
-      let n : ℕ = (plan_of due es room s).count in
+      let n : ℕ = gone_count due s.core.settings.delays.send_timeout (take (min s.core.rings.pending.len 256) es) in
       let k : n ≡ count_of due (view s) = λ j. gone_count due (timeout_is s j) (e j) in
       let first : take n es ≡ gone_of due (view s) =
       sym (take-take n (min s.core.rings.pending.len 256) es (omega arith))
@@ -73,20 +75,7 @@ module _ (s : ProducerState) (f : Full s) (due : Option ℕ) (room : ℕ) (es : 
       ∙ gone_is due (view s) in
       let many : n ≡ length (gone_of due (view s)) =
       k ∙ sym (length-take-le (count_of due (view s)) (view s).pending most) ∙ ap length (gone_is due (view s)) in
-      subst (λ (x : Handout). Plans due room s es x) (sym h) (record { gone = first; many = many; few = omega arith; fits = refl })
-
-  pub plan_few : p.count ≤ 256
-  plan_few = plans.few
-
-  pub plan_write : (p.write ≤ 256) × (p.write ≤ room)
-  plan_write = go (dec_lt room p.count)
-    where
-      go : Dec (room < p.count) → (p.write ≤ 256) × (p.write ≤ room)
-      go (yes b) =
-          let w : p.write ≡ 0 = plans.fits ∙ ap (λ (t : Bool). pick t 0 p.count) (lt-ltb room p.count b) in (omega arith, omega arith)
-      go (no b) =
-          let w : p.write ≡ p.count = plans.fits ∙ ap (λ (t : Bool). pick t 0 p.count) (le-ltb room p.count (omega arith)) in
-          (omega (arith, plans.few), omega arith)
+      record { gone = first; many = many; few = omega arith }
 
 -- ── what is left ──
 
@@ -121,8 +110,8 @@ unfolding drain_pending_sends drain_timed_out_sends
 drain_is None room q = refl
 drain_is (Some time) room q = refl
 
-left_view : (s : ProducerState) → Full s → (due : Option ℕ) (es : List OpSend) (p : Handout) → take p.count es ≡ gone_of due (view s)
-    → p.count ≡ count_of due (view s) → view (drained_state due es p s) ≡ left_of due (view s)
+left_view : (s : ProducerState) → Full s → (due : Option ℕ) (es : List OpSend) (p : ℕ) → take p es ≡ gone_of due (view s)
+    → p ≡ count_of due (view s) → view (drained_state due es p s) ≡ left_of due (view s)
 unfolding view
 left_view s f None es p e k =
     let c = s.core in
@@ -147,50 +136,58 @@ left_view s f (Some time) es p e k =
     let due : Option ℕ = Some time in
     let h : ℕ = r.pending.head in
     let n : ℕ = r.pending.len in
-    let gone : List OpSend = take p.count es in
+    let gone : List OpSend = take p es in
     let slots : List OpSend = slots_of (drained_state due es p s) in
     let len : length slots ≡ 256 =
     length_entries 256 s.pending_ids (cleared_each gone s.pending_ids s.pending_marks) s.pending f.ids
     (length_each gone s.pending_ids s.pending_marks f.ids f.marks) f.pending in
-    let moved : ring 256 slots (slot 256 h (min p.count (min n 256))) (min n 256 - min p.count (min n 256)) ≡ drop p.count (ring 256 slots h n) =
-    ring_drops 256 (lit< tt) slots len blank h n p.count in
+    let moved : ring 256 slots (slot 256 h (min p (min n 256))) (min n 256 - min p (min n 256)) ≡ drop p (ring 256 slots h n) =
+    ring_drops 256 (lit< tt) slots len blank h n p in
     let all : ring 256 slots h n ≡ unmark_all gone (view s).pending = unmark_ring gone s.pending_ids s.pending_marks s.pending h n in
-    let same : drop p.count (unmark_all gone (view s).pending) ≡ unmark_all (gone_of due (view s)) (drop (count_of due (view s)) (view s).pending) =
-    unmark_drop gone p.count (view s).pending ∙ (λ j. unmark_all (e j) (drop (k j) (view s).pending)) in
-    λ j. with_pending ((moved ∙ ap (drop p.count) all ∙ same) j) (view s)
+    let same : drop p (unmark_all gone (view s).pending) ≡ unmark_all (gone_of due (view s)) (drop (count_of due (view s)) (view s).pending) =
+    unmark_drop gone p (view s).pending ∙ (λ j. unmark_all (e j) (drop (k j) (view s).pending)) in
+    λ j. with_pending ((moved ∙ ap (drop p) all ∙ same) j) (view s)
 
 -- ── the call ──
 
-pub drains : (s : ProducerState) → Full s → (due : Option ℕ) (ys zs es : List OpSend) (p : Handout) (r : CountAnswer)
-    → take (min s.core.rings.pending.len 256) es ≡ (view s).pending → p ≡ plan_of due es (length ys) s → zs ≡ table_after (take p.write es) ys → r ≡ drained_to due es p s → Drains due s ys r zs
-drains s f due ys zs es p r listed planned z e = subst (λ (x : CountAnswer). Drains due s ys x zs) (sym e) (go (dec_lt (length ys) p.count))
-  where
-    pl : Plans due (length ys) s es p
-    pl = plans s f due (length ys) es p listed planned
+module _ (s : ProducerState) (f : Full s) (due : Option ℕ) (es : List OpSend) (e : take (min s.core.rings.pending.len 256) es ≡ (view s).pending)
+    (ys : List OpSend) where
+  -- a plan that goes through, and one that does not
+  record Fits (k : ℕ) : Type 0 where
+    plan : Plans s f due es e k
+    room : k ≤ length ys
 
-    gone : List OpSend
-    gone = gone_of due (view s)
+  fits : (k : ℕ) → plan_of due es (length ys) s ≡ Ok k → Fits k
+  unfolding planned_count
+  fits k p =
+      let both = ok_of (ltb (length ys) (planned_count s f due es e)) (planned_count s f due es e) k TooShort p in
+      subst Fits both.1 (record { plan = plans s f due es e; room = ltb-false (length ys) (planned_count s f due es e) both.0 })
 
-    go : Dec (length ys < p.count) → Drains due s ys (drained_to due es p s) zs
-    go (yes h) =
-        let w : p.write ≡ 0 = pl.fits ∙ ap (λ (b : Bool). pick b 0 p.count) (lt-ltb (length ys) p.count h) in
-        let t : ltb p.write p.count ≡ true = lt-ltb p.write p.count (omega (arith, w)) in
-        let short : ltb (length ys) (length gone) ≡ true = lt-ltb (length ys) (length gone) (omega (arith, pl.many)) in
-        let zy : zs ≡ ys = z ∙ ap (λ (j : ℕ). table_after (take j es) ys) w in
-        subst (λ (b : Bool). Drains due s ys (pick b (record { answer = Err TooShort; state = s }) (record { answer = Ok p.count; state = drained_state due es p s })) zs) (sym t)
-        (sym (drain_is due (length ys) (view s) ∙ ap (λ (b : Bool). pick b (view s, refused 9 []) (left_of due (view s), done gone)) short), zy, refl)
-    go (no h) =
-        let w : p.write ≡ p.count = pl.fits ∙ ap (λ (b : Bool). pick b 0 p.count) (le-ltb (length ys) p.count (omega arith)) in
-        let t : ltb p.write p.count ≡ false = le-ltb p.write p.count (omega (arith, w)) in
-        let room : ltb (length ys) (length gone) ≡ false = le-ltb (length ys) (length gone) (omega (arith, pl.many)) in
-        let zg : zs ≡ table_after gone ys = z ∙ ap (λ (j : ℕ). table_after (take j es) ys) w ∙ ap (λ (l : List OpSend). table_after l ys) pl.gone in
-        let back : take p.count zs ≡ gone =
-        ap (take p.count) zg ∙ take_at gone (drop (length gone) ys) p.count (sym pl.many) in
-        let k : p.count ≡ count_of due (view s) =
-        pl.many ∙ ap length (sym (gone_is due (view s))) ∙ length-take-le (count_of due (view s)) (view s).pending (count_most due (view s)) in
-        subst (λ (b : Bool). Drains due s ys (pick b (record { answer = Err TooShort; state = s }) (record { answer = Ok p.count; state = drained_state due es p s })) zs) (sym t) (
-          (λ j. (left_view s f due es p pl.gone k j, done (back j)))
-              ∙ sym (drain_is due (length ys) (view s) ∙ ap (λ (b : Bool). pick b (view s, refused 9 []) (left_of due (view s), done gone)) room),
-          zg ∙ ap (λ (l : List OpSend). table_after l ys) (sym back),
-          tt,
-        )
+  pub plan_fits : (k : ℕ) → plan_of due es (length ys) s ≡ Ok k → (k ≤ 256) × (k ≤ length ys)
+  plan_fits k p = let g = fits k p in (g.plan.few, g.room)
+
+  pub drains_short : (x : ProducerError) → plan_of due es (length ys) s ≡ Err x → Drains due s ys (Err x) s ys
+  unfolding planned_count
+  drains_short x p =
+      let n : ℕ = planned_count s f due es e in
+      let both = err_of (ltb (length ys) n) n TooShort x p in
+      let gone : List OpSend = gone_of due (view s) in
+      let short : ltb (length ys) (length gone) ≡ true = ap (ltb (length ys)) (sym (plans s f due es e).many) ∙ both.0 in
+      subst (λ (y : ProducerError). Drains due s ys (Err y) s ys) both.1
+      (sym (drain_is due (length ys) (view s) ∙ ap (λ (b : Bool). pick b (view s, refused 9 []) (left_of due (view s), done gone)) short), refl, refl)
+
+  pub drains_done : (k : ℕ) → plan_of due es (length ys) s ≡ Ok k → (zs : List OpSend) → zs ≡ table_after (take k es) ys
+      → Drains due s ys (Ok k) (drained_state due es k s) zs
+  drains_done k p zs z =
+      let g = fits k p in
+      let gone : List OpSend = gone_of due (view s) in
+      let room : ltb (length ys) (length gone) ≡ false = le-ltb (length ys) (length gone) (omega (arith, g.plan.many, g.room)) in
+      let zg : zs ≡ table_after gone ys = z ∙ ap (λ (l : List OpSend). table_after l ys) g.plan.gone in
+      let back : take k zs ≡ gone = ap (take k) zg ∙ take_at gone (drop (length gone) ys) k (sym g.plan.many) in
+      let c : k ≡ count_of due (view s) =
+      g.plan.many ∙ ap length (sym (gone_is due (view s))) ∙ length-take-le (count_of due (view s)) (view s).pending (count_most due (view s)) in (
+        (λ j. (left_view s f due es k g.plan.gone c j, done (back j)))
+            ∙ sym (drain_is due (length ys) (view s) ∙ ap (λ (b : Bool). pick b (view s, refused 9 []) (left_of due (view s), done gone)) room),
+        zg ∙ ap (λ (l : List OpSend). table_after l ys) (sym back),
+        tt,
+      )

@@ -1,11 +1,15 @@
 -- Laws of pending entries put together from three arrays: length, elements, a store at one place. Assumes nothing.
-use Rattle.std.proofs.Common.{◌≡◌, ℕ, zero, suc, ◌<◌, Bool, true, false, not, eqb, List, [], ◌∷◌, map, length, get_or, set, refl, ap, arith}
+use Rattle.std.specs.Prelude.{Option, Some, None}
+use Rattle.std.proofs.Common.{◌≡◌, ℕ, zero, suc, ◌<◌, Bool, true, false, not, eqb, List, [], ◌∷◌, map, length, get_or, set, sym, refl, ap, ◌∙◌, arith}
 use Rattle.laws.specs.Choice.{pick}
-use Rattle.laws.specs.Lists.{set_if}
+use Rattle.laws.specs.Lists.{set_at}
 use Rattle.types.specs.declared.entry.OpSend.{OpSend}
 use Rattle.types.specs.declared.entry.Publish.{Publish}
 use Rattle.queue.specs.Settle.{unmark}
 use Rattle.upkeep.specs.Pending.{Key, keys, cleared, cleared_all}
+use Rattle.std.specs.Int.{from_bool}
+use Rattle.plans.specs.Delta.{put_at}
+use Rattle.producer.specs.Apply.{stored}
 use Rattle.producer.specs.View.{entry_of, entries}
 use Rattle.producer.specs.Settle.{key_of}
 
@@ -57,7 +61,13 @@ unmarked_entries id (i ∷ is) [] ps = refl
 unmarked_entries id (i ∷ is) (m ∷ ms) [] = refl
 unmarked_entries id (i ∷ is) (m ∷ ms) (p ∷ ps) = λ j. unmarked_one id i m p j ∷ unmarked_entries id is ms ps j
 
-pub entries_set_if : (b : Bool) (is ms : List ℕ) (ps : List Publish) (k i m : ℕ) (p : Publish)
-    → entries (set_if b is k i) (set_if b ms k m) (set_if b ps k p) ≡ set_if b (entries is ms ps) k (entry_of i m p)
-entries_set_if true is ms ps k i m p = entries_set is ms ps k i m p
-entries_set_if false is ms ps k i m p = refl
+-- an answerable entry's three parts at a place
+pub entries_put : (place : Option ℕ) (is ms : List ℕ) (ps : List Publish) (op : OpSend) → op.answerable ≡ true
+    → entries (stored (λ (x : OpSend). x.sequence_id.0) (put_at place op) is) (stored (λ (x : OpSend). from_bool x.answerable) (put_at place op) ms)
+    (stored (λ (x : OpSend). x.publish) (put_at place op) ps)
+    ≡ set_at place (entries is ms ps) op
+entries_put None is ms ps op e = refl
+entries_put (Some k) is ms ps op e =
+    (λ j. entries (set is k op.sequence_id.0) (set ms k (from_bool (e j))) (set ps k op.publish))
+    ∙ entries_set is ms ps k op.sequence_id.0 1 op.publish
+    ∙ (λ j. set (entries is ms ps) k (record op { answerable = sym e j }))

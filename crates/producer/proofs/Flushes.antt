@@ -4,6 +4,7 @@ use Rattle.std.proofs.Common.{◌≡◌, ℕ, ◌+◌, ◌<◌, Bool, true, fals
 use Rattle.laws.specs.Choice.{pick}
 use Rattle.laws.proofs.Slots.{slot_below}
 use Rattle.types.specs.Empty.{empty_batch}
+use Rattle.types.specs.declared.frame.FrameRecord.{FrameRecord}
 use Rattle.types.specs.declared.batch.BatchContainer.{BatchContainer}
 use Rattle.types.specs.declared.error.ProducerError.TheVariants.{OutboundFull}
 use Rattle.queue.specs.Queue.{Queue, Outcome, done, refuse, with_out}
@@ -28,8 +29,8 @@ abbrev pub batching : BatchContainer → Queue → Queue
 batching b q = with_out (with_batch b q.out) q
 
 -- the state after a push of frames
-abbrev pub after : Pushed → ProducerState → ProducerState
-after p s = store_frame p.frame (store_core p.core s)
+abbrev pub after : Pushed FrameRecord → ProducerState → ProducerState
+after p s = store_frame p.put (store_core p.core s)
 
 module _ (s : ProducerState) (f : Full s) (t : ℕ) where
   pub flushes : view (after (flushed_core t s.core) s) ≡ flushed t (view s)
@@ -44,7 +45,7 @@ module _ (s : ProducerState) (f : Full s) (t : ℕ) where
   flushes_if false = refl
 
   pub full_flushed_lem : (b : Bool) → Full (after (flushed_if b t s.core) s)
-  full_flushed_lem b = full_frame (store_core (flushed_if b t s.core).core s) (full_core s f (flushed_if b t s.core).core) (flushed_if b t s.core).frame
+  full_flushed_lem b = full_frame (store_core (flushed_if b t s.core).core s) (full_core s f (flushed_if b t s.core).core) (flushed_if b t s.core).put
 
   -- what a plan of a flush says of the state that it is applied to
   abbrev pub Flushes : FlushDelta → ProducerState → Outcome ℕ → Type 0
@@ -68,10 +69,3 @@ module _ (s : ProducerState) (f : Full s) (t : ℕ) where
       go false true b3 = (refl, tt)
       go false false true = (refl, refl)
       go false false false = ((λ j. (flushes j, done 1)), tt)
-
-pub flush_place : (b : Bool) (t : ℕ) (c : Core) → (flushed_if b t c).frame.at < 1024
-flush_place true t c = slot_below 1024 _ _ (lit< tt)
-flush_place false t c = lit< tt
-
-pub plan_flush_place : (t : ℕ) (c : Core) → (flush_planned t c).frame.at < 1024
-plan_flush_place t c = flush_place (makes_frame (flush_answer c)) t c

@@ -1,19 +1,21 @@
 -- The state's arrays have as many elements as its type says, and a store keeps that. Assumes nothing.
+use Rattle.std.specs.Prelude.{Option}
 use Rattle.std.proofs.Common.{◌≡◌, [], ◌∷◌, length, ◌∙◌}
 use denote.Laws.{Is}
 use denote.Struct.Declared.{row}
 use denote.Struct.Laws.{val}
-use Rattle.laws.proofs.Pushes.{length_set_if}
 use Rattle.plans.specs.declared.state.Core.{Core}
-use Rattle.plans.specs.declared.delta.FramePut.{FramePut}
-use Rattle.plans.specs.declared.delta.EntryPut.{EntryPut}
-use Rattle.plans.specs.declared.delta.HeldPut.{HeldPut}
+use Rattle.plans.specs.declared.delta.Put.{Put}
+use Rattle.types.specs.declared.entry.OpSend.{OpSend}
+use Rattle.types.specs.declared.frame.FrameRecord.{FrameRecord}
+use Rattle.types.specs.declared.message.SingleMessage.{SingleMessage}
 use Rattle.producer.specs.Apply.{store_core, store_frame, store_entry, store_held}
 use Rattle.producer.specs.View.{slots_of}
 use Rattle.producer.specs.declared.state.ProducerState.{ProducerState}
 use Rattle.producer.specs.contracts.state.ProducerState.{the_type}
 use Rattle.producer.proofs.state.ProducerState.TheLaws.{the_laws}
 use Rattle.producer.proofs.Entries.{length_entries}
+use Rattle.producer.proofs.Stores.{length_stored}
 
 -- what owning a state tells
 abbrev pub Good : ProducerState → Type 0
@@ -43,31 +45,31 @@ module _ (s : ProducerState) (f : Full s) where
   pub full_core : (c : Core) → Full (store_core c s)
   full_core c = record { outbound = f.outbound; held = f.held; pending = f.pending; ids = f.ids; marks = f.marks }
 
-  pub full_frame : (p : FramePut) → Full (store_frame p s)
+  pub full_frame : (p : Option (Put FrameRecord)) → Full (store_frame p s)
   full_frame p =
       record {
-        outbound = length_set_if p.put s.outbound p.at p.frame ∙ f.outbound;
+        outbound = length_stored _ p s.outbound ∙ f.outbound;
         held = f.held;
         pending = f.pending;
         ids = f.ids;
         marks = f.marks;
       }
 
-  pub full_entry : (p : EntryPut) → Full (store_entry p s)
+  pub full_entry : (p : Option (Put OpSend)) → Full (store_entry p s)
   full_entry p =
       record {
         outbound = f.outbound;
         held = f.held;
-        pending = length_set_if p.put s.pending p.at p.publish ∙ f.pending;
-        ids = length_set_if p.put s.pending_ids p.at p.id ∙ f.ids;
-        marks = length_set_if p.put s.pending_marks p.at p.mark ∙ f.marks;
+        pending = length_stored _ p s.pending ∙ f.pending;
+        ids = length_stored _ p s.pending_ids ∙ f.ids;
+        marks = length_stored _ p s.pending_marks ∙ f.marks;
       }
 
-  pub full_held : (p : HeldPut) → Full (store_held p s)
+  pub full_held : (p : Option (Put SingleMessage)) → Full (store_held p s)
   full_held p =
       record {
         outbound = f.outbound;
-        held = length_set_if p.put s.held p.at p.single ∙ f.held;
+        held = length_stored _ p s.held ∙ f.held;
         pending = f.pending;
         ids = f.ids;
         marks = f.marks;

@@ -26,12 +26,12 @@ use Rattle.plans.specs.declared.send.Sending.{Sending}
 use Rattle.plans.specs.declared.send.Emitted.{Emitted}
 use Rattle.plans.specs.declared.send.Joined.{Joined}
 use Rattle.producer.specs.View.{view, entry_of}
-use Rattle.producer.specs.Apply.{store_core, store_frame, store_entry, store_held, applied, InRange}
+use Rattle.producer.specs.Apply.{store_core, store_frame, store_entry, store_held, applied}
 use Rattle.producer.specs.Send.{sending, KeptSend}
 use Rattle.producer.specs.declared.state.ProducerState.{ProducerState}
 use Rattle.producer.proofs.Full.{Full, full_core, full_entry, full_held}
 use Rattle.producer.proofs.Views.{holding, pushes, holds, accepts, held_length, pending_length}
-use Rattle.producer.proofs.Flushes.{batching, after, flushes_if, full_flushed_lem, flush_place}
+use Rattle.producer.proofs.Flushes.{batching, after, flushes_if, full_flushed_lem}
 use Rattle.types.specs.declared.error.ProducerError.{ProducerError}
 
 -- what the definition calls a sending
@@ -55,8 +55,8 @@ module _ (s : ProducerState) (f : Full s) where
       let c = s.core in
       let e = accepted p c in
       let r = frame_of c.ids.next_sequence_id p k in
-      let s1 = store_entry e.entry (store_core e.core s) in
-      let f1 = full_entry (store_core e.core s) (full_core s f e.core) e.entry in
+      let s1 = store_entry e.put (store_core e.core s) in
+      let f1 = full_entry (store_core e.core s) (full_core s f e.core) e.put in
       let c2 = counted_core messages bytes e.core in
       pushes (store_core c2 s1) (full_core s1 f1 c2) r frames ∙ ap (send.emit r frames messages bytes) (accepts s f p)
 
@@ -81,8 +81,8 @@ module _ (s : ProducerState) (f : Full s) where
       let c = s.core in
       let p = publish_of a (pos 1) replay.Batched c in
       let e = accepted p c in
-      let s1 = store_entry e.entry (store_core e.core s) in
-      let f1 = full_entry (store_core e.core s) (full_core s f e.core) e.entry in
+      let s1 = store_entry e.put (store_core e.core s) in
+      let f1 = full_entry (store_core e.core s) (full_core s f e.core) e.put in
       let b = grown a.message c.ids.next_sequence_id a.now c.batch in
       let m = single_of a.message in
       ap (batching b) (holds s1 f1 m ∙ ap (λ (q : Queue). with_out (holding m q.out) q) (accepts s f p))
@@ -253,39 +253,3 @@ module _ (s : ProducerState) (f : Full s) (a : Sending) where
       (leb 256 (min k.rings.pending.len 256))
       w
       takes)))
-
--- ── the places ──
-
-in_way : (w : Way) (a : Sending) (c : Core) → InRange (followed w a c)
-unfolding followed
-in_way (TooLarge before) a c = record { first = flush_place before a.publish_time c; second = lit< tt; entry = lit< tt; held = lit< tt }
-in_way (Join before after) a c =
-    let k = (joined a (flushed_if before a.publish_time c).core).core in
-    record {
-      first = flush_place before a.publish_time c;
-      second = flush_place (is_full k.settings k.batch.len k.batch.current_size_bytes) a.publish_time k;
-      entry = slot_below 256 _ _ (lit< tt);
-      held = slot_below 512 _ _ (lit< tt);
-    }
-in_way (Single before) a c =
-    record {
-      first = flush_place before a.publish_time c;
-      second = slot_below 1024 _ _ (lit< tt);
-      entry = slot_below 256 _ _ (lit< tt);
-      held = lit< tt;
-    }
-in_way (Chunked before size count) a c =
-    record {
-      first = flush_place before a.publish_time c;
-      second = slot_below 1024 _ _ (lit< tt);
-      entry = slot_below 256 _ _ (lit< tt);
-      held = lit< tt;
-    }
-
-in_plan : (p : Result Way ProducerError) (a : Sending) (c : Core) → InRange (plan_out p a c)
-in_plan (Err e) a c = record { first = lit< tt; second = lit< tt; entry = lit< tt; held = lit< tt }
-in_plan (Ok w) a c = in_way w a c
-
-pub in_range : (n : ℕ) (a : Sending) (c : Core) → InRange (planned n a c)
-unfolding planned
-in_range n a c = in_plan (chosen n a.message a.reservation.bytes c) a c

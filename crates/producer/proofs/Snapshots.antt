@@ -1,11 +1,12 @@
 -- The snapshot: what is planned is what the definitions hand out, and the state after it stands for their queue. Assumes nothing.
-use Rattle.std.specs.Prelude.{Err, Ok}
+use Rattle.std.specs.Prelude.{Err, Ok, Result}
 use Rattle.std.proofs.Common.{◌≡◌, ℕ, ◌<◌, ◌≤◌, Bool, true, false, not, ◌&&◌, ◌||◌, ltb, leb, List, [], ◌∷◌, length, take, drop, sym, refl, ap, ◌∙◌, subst, zero-le, arith, take_at, le-ltb, lt-ltb, le-leb, leb-true}
 use native.Mathlib.Decide.{dec_lt}
 use borrow.Author.Tests.{lt-leb}
 use Rattle.laws.specs.Choice.{pick}
 use Rattle.laws.proofs.Rings.{ring_none}
 use Rattle.types.specs.declared.entry.OpSend.{OpSend}
+use Rattle.types.specs.declared.error.ProducerError.{ProducerError}
 use Rattle.types.specs.declared.error.ProducerError.TheVariants.{TooShort}
 use Rattle.types.specs.declared.settings.Setting.TheVariants.{BrokerReady}
 use Rattle.queue.specs.Queue.{Queue, Outcome, refused, done, empty_outgoing}
@@ -17,27 +18,15 @@ use Rattle.tables.specs.Scalars.{core_snapshot}
 use Rattle.tables.specs.Snapshot.{snapshot_of}
 use Rattle.tables.specs.declared.snapshot.Snapshot.{Snapshot}
 use Rattle.producer.specs.Apply.{store_core}
-use Rattle.producer.specs.Tables.{snapshot_to, told_snapshot, dropped_left, replay_left}
+use Rattle.producer.specs.Tables.{told_snapshot, dropped_left, replay_left}
 use Rattle.producer.specs.View.{view, slots_of}
-use Rattle.producer.specs.declared.drain.SnapshotAnswer.{SnapshotAnswer}
 use Rattle.producer.specs.declared.state.ProducerState.{ProducerState}
 use Rattle.producer.proofs.Full.{Full}
+use Rattle.producer.proofs.Plans.{ok_then, err_else}
+use Rattle.laws.proofs.Choice.{differ}
 use Rattle.producer.proofs.Locate.{length_view}
 
 -- ── what is handed out ──
-
--- the write to each table, and that there is room
-pub writes : (d r dRoom rRoom : ℕ) (p : Snapshot) → p ≡ snapshot_of d r dRoom rRoom → d ≤ 256 → r ≤ 256
-    → ((p.dropped_write ≤ 256) × (p.dropped_write ≤ dRoom)) × ((p.replay_write ≤ 256) × (p.replay_write ≤ rRoom))
-writes d r dRoom rRoom p e dm rm =
-    subst (λ (x : Snapshot). ((x.dropped_write ≤ 256) × (x.dropped_write ≤ dRoom)) × ((x.replay_write ≤ 256) × (x.replay_write ≤ rRoom))) (sym e)
-    (go (leb d dRoom) (leb r rRoom) refl refl)
-  where
-    go : (a b : Bool) → leb d dRoom ≡ a → leb r rRoom ≡ b
-        → ((pick (a && b) d 0 ≤ 256) × (pick (a && b) d 0 ≤ dRoom)) × ((pick (a && b) r 0 ≤ 256) × (pick (a && b) r 0 ≤ rRoom))
-    go true true x y = ((dm, leb-true d dRoom x), (rm, leb-true r rRoom y))
-    go true false x y = ((zero-le, zero-le), (zero-le, zero-le))
-    go false b x y = ((zero-le, zero-le), (zero-le, zero-le))
 
 batched_most : (l : List OpSend) → length (batched_of l) ≤ length l
 batched_most [] = zero-le
@@ -108,12 +97,12 @@ left_view s n e =
     }
 
 -- what the call owes, of the answer, the state and the two tables after it
-abbrev pub Snaps : ProducerState → List OpSend → List OpSend → SnapshotAnswer → List OpSend → List OpSend → Type 0
-Snaps s ds rs r zs us =
-    ◌≡◌ {A = Outcome (List OpSend × List OpSend)} (view r.state, told_snapshot r zs us) (snapshot_pending_sends (length ds) (length rs) (view s))
-    × (zs ≡ dropped_left (told_snapshot r zs us) ds)
-    × (us ≡ replay_left (told_snapshot r zs us) rs)
-    × Kept (told_snapshot r zs us) s r.state
+abbrev pub Snaps : ProducerState → List OpSend → List OpSend → Result Snapshot ProducerError → ProducerState → List OpSend → List OpSend → Type 0
+Snaps s ds rs a t zs us =
+    ◌≡◌ {A = Outcome (List OpSend × List OpSend)} (view t, told_snapshot a zs us) (snapshot_pending_sends (length ds) (length rs) (view s))
+    × (zs ≡ dropped_left (told_snapshot a zs us) ds)
+    × (us ≡ replay_left (told_snapshot a zs us) rs)
+    × Kept (told_snapshot a zs us) s t
 
 snapshot_is : (ds rs : ℕ) (q : Queue) (b : Bool)
     → (leb (length (batched_of q.pending)) ds && leb (length (framed_of q.pending)) rs) ≡ b
@@ -133,62 +122,72 @@ snapshot_is ds rs q b e =
     turned true = refl
     turned false = refl
 
--- one table: all are written, or none
-written : (b : Bool) (l es ys zs : List OpSend) (n : ℕ) → take (length l) es ≡ l → n ≡ pick b (length l) 0 → zs ≡ table_after (take n es) ys
-    → zs ≡ pick b (table_after l ys) ys
-written true l es ys zs n e k z = z ∙ ap (λ (j : ℕ). table_after (take j es) ys) k ∙ ap (λ (x : List OpSend). table_after x ys) e
-written false l es ys zs n e k z = z ∙ ap (λ (j : ℕ). table_after (take j es) ys) k
-
 back : (l ys zs : List OpSend) → zs ≡ table_after l ys → take (length l) zs ≡ l
 back l ys zs z = ap (take (length l)) z ∙ take_at l (drop (length l) ys) (length l) refl
 
-pub snaps : (s : ProducerState) (ds rs zs us es fs : List OpSend) (p : Snapshot) (r : SnapshotAnswer)
-    → take (length (batched_of (view s).pending)) es ≡ batched_of (view s).pending
-    → take (length (framed_of (view s).pending)) fs ≡ framed_of (view s).pending
-    → p ≡ snapshot_of (length (batched_of (view s).pending)) (length (framed_of (view s).pending)) (length ds) (length rs)
-    → zs ≡ table_after (take p.dropped_write es) ds
-    → us ≡ table_after (take p.replay_write fs) rs
-    → r ≡ snapshot_to p s
-    → Snaps s ds rs r zs us
-snaps s ds rs zs us es fs p r de fe pe z u e =
-    subst (λ (x : SnapshotAnswer). Snaps s ds rs x zs us) (sym (e ∙ ap (λ (x : Snapshot). snapshot_to x s) pe)) (go (leb (length d) (length ds) && leb (length f) (length rs)) refl)
-  where
-    d : List OpSend
-    d = batched_of (view s).pending
+module _ (s : ProducerState) (ds rs : List OpSend) where
+  d : List OpSend
+  d = batched_of (view s).pending
 
-    f : List OpSend
-    f = framed_of (view s).pending
+  f : List OpSend
+  f = framed_of (view s).pending
 
-    -- the answer, by the test
-    made : Bool → SnapshotAnswer
-    made b =
-        record {
-          answer = pick b (Ok tt) (Err TooShort);
-          dropped = length d;
-          replay = length f;
-          state = pick b (store_core (core_snapshot (length d) s.core) s) s;
-        }
+  abbrev Fits : Bool
+  Fits = leb (length d) (length ds) && leb (length f) (length rs)
 
-    both : (b : Bool) → (leb (length d) (length ds) && leb (length f) (length rs)) ≡ b
-        → (zs ≡ pick b (table_after d ds) ds) × (us ≡ pick b (table_after f rs) rs)
-    both b t = (
-      written b d es ds zs p.dropped_write de (ap (λ (x : Snapshot). x.dropped_write) pe ∙ ap (λ (c : Bool). pick c (length d) 0) t) z,
-      written b f fs rs us p.replay_write fe (ap (λ (x : Snapshot). x.replay_write) pe ∙ ap (λ (c : Bool). pick c (length f) 0) t) u,
-    )
+  abbrev counts : Snapshot
+  counts = record { dropped = length d; replay = length f }
 
-    go : (b : Bool) → (leb (length d) (length ds) && leb (length f) (length rs)) ≡ b
-        → Snaps s ds rs (made (leb (length d) (length ds) && leb (length f) (length rs))) zs us
-    go true t =
-        let zd = (both true t).0 in
-        let uf = (both true t).1 in
-        let bd = back d ds zs zd in
-        let bf = back f rs us uf in
-        subst (λ (b : Bool). Snaps s ds rs (made b) zs us) (sym t) (
-          (λ j. (left_view s (length d) refl j, done (bd j, bf j))) ∙ sym (snapshot_is (length ds) (length rs) (view s) true t),
-          zd ∙ ap (λ (x : List OpSend). table_after x ds) (sym bd),
-          uf ∙ ap (λ (x : List OpSend). table_after x rs) (sym bf),
-          tt,
-        )
-    go false t =
-        subst (λ (b : Bool). Snaps s ds rs (made b) zs us) (sym t)
-        (sym (snapshot_is (length ds) (length rs) (view s) false t), (both false t).0, (both false t).1, refl)
+  abbrev pub Planned : Result Snapshot ProducerError
+  Planned = snapshot_of (length (batched_of (view s).pending)) (length (framed_of (view s).pending)) (length ds) (length rs)
+
+  both_leb : (a b : Bool) → (a && b) ≡ true → (a ≡ true) × (b ≡ true)
+  both_leb true true e = (refl, refl)
+  both_leb true false e = differ (cc)
+  both_leb false b e = differ (cc)
+
+  -- a plan that goes through
+  record Goes (k : Snapshot) : Type 0 where
+    fits : Fits ≡ true
+    is : counts ≡ k
+
+  goes : (k : Snapshot) → Planned ≡ Ok k → Goes k
+  unfolding d f
+  goes k p = let both = ok_then Fits counts k TooShort p in record { fits = both.0; is = both.1 }
+
+  pub snapshot_fits : Full s → (k : Snapshot) → Planned ≡ Ok k
+      → ((k.dropped ≤ 256) × (k.dropped ≤ length ds)) × ((k.replay ≤ 256) × (k.replay ≤ length rs))
+  unfolding d f
+  snapshot_fits full k p =
+      let g = goes k p in
+      let both = both_leb (leb (length d) (length ds)) (leb (length f) (length rs)) g.fits in
+      subst (λ (x : Snapshot). ((x.dropped ≤ 256) × (x.dropped ≤ length ds)) × ((x.replay ≤ 256) × (x.replay ≤ length rs))) g.is
+      ((dropped_few s full, leb-true (length d) (length ds) both.0), (replay_few s full, leb-true (length f) (length rs) both.1))
+
+  pub snaps_short : (x : ProducerError) → Planned ≡ Err x → Snaps s ds rs (Err x) s ds rs
+  unfolding d f
+  snaps_short x p =
+      let both = err_else Fits counts TooShort x p in
+      subst (λ (y : ProducerError). Snaps s ds rs (Err y) s ds rs) both.1
+      (sym (snapshot_is (length ds) (length rs) (view s) false both.0), refl, refl, refl)
+
+  pub snaps_done : (k : Snapshot) → Planned ≡ Ok k → (es fs zs us : List OpSend)
+      → take (length (batched_of (view s).pending)) es ≡ batched_of (view s).pending
+      → take (length (framed_of (view s).pending)) fs ≡ framed_of (view s).pending
+      → zs ≡ table_after (take k.dropped es) ds → us ≡ table_after (take k.replay fs) rs
+      → Snaps s ds rs (Ok k) (store_core (core_snapshot k.dropped s.core) s) zs us
+  unfolding d f
+  snaps_done k p es fs zs us de fe z u =
+      let g = goes k p in
+      let zd : zs ≡ table_after d ds =
+      z ∙ ap (λ (x : Snapshot). table_after (take x.dropped es) ds) (sym g.is) ∙ ap (λ (l : List OpSend). table_after l ds) de in
+      let uf : us ≡ table_after f rs =
+      u ∙ ap (λ (x : Snapshot). table_after (take x.replay fs) rs) (sym g.is) ∙ ap (λ (l : List OpSend). table_after l rs) fe in
+      let bd = back d ds zs zd in
+      let bf = back f rs us uf in
+      subst (λ (x : Snapshot). Snaps s ds rs (Ok x) (store_core (core_snapshot x.dropped s.core) s) zs us) g.is (
+        (λ j. (left_view s (length d) refl j, done (bd j, bf j))) ∙ sym (snapshot_is (length ds) (length rs) (view s) true g.fits),
+        zd ∙ ap (λ (x : List OpSend). table_after x ds) (sym bd),
+        uf ∙ ap (λ (x : List OpSend). table_after x rs) (sym bf),
+        tt,
+      )

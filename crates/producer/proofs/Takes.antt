@@ -30,17 +30,16 @@ use Rattle.wire.specs.Uuid.{uuid_text}
 use Rattle.laws.proofs.Choice.{and_left, differ}
 use Rattle.frames.specs.Span.{borne, name_in, span_at, span_of, is_batch, held_count}
 use Rattle.frames.specs.Payload.{payload_of, Writable}
-use Rattle.frames.specs.Answer.{answer_of, is_done}
+use Rattle.frames.specs.Answer.{answer_of}
 use Rattle.frames.specs.Outbound.{present_if, frame_out}
 use Rattle.frames.specs.After.{has_next, stays_of, record_after}
-use Rattle.plans.specs.Take.{core_taken, take_planned}
+use Rattle.plans.specs.Take.{core_taken, plan_with, take_planned}
 use Rattle.frames.specs.declared.span.Span.{Span}
 use Rattle.plans.specs.declared.take.TakePlan.{TakePlan}
 use Rattle.frames.proofs.Batches.{all_in_lem}
 use Rattle.producer.specs.View.{view}
 use Rattle.producer.specs.Take.{frame_told, told_frame}
 use Rattle.producer.specs.declared.state.ProducerState.{ProducerState}
-use Rattle.producer.specs.declared.take.OutboundAnswer.{OutboundAnswer}
 use Rattle.producer.proofs.Full.{Full}
 use Rattle.types.specs.declared.error.ProducerError.{ProducerError}
 
@@ -80,6 +79,22 @@ stopped_test room x b = go (dec_lt room x)
 
 stop_short : (x : ℕ) → x < 2 ^ 63 → x ≡ stopped x
 stop_short x b = omega arith
+
+-- an answer is one of the two
+not_both : {P : Type 0} {o : Result (Unit {0}) ProducerError} (e : ProducerError) → o ≡ Err e → o ≡ Ok tt → P
+not_both e a t = differ (cc)
+
+same_err : (e f : ProducerError) → ◌≡◌ {A = Result (Unit {0}) ProducerError} (Err e) (Err f) → e ≡ f
+same_err e f t = cc
+
+-- what a plan tells of its test
+ok_planned : (o : Result (Unit {0}) ProducerError) (m p : TakePlan) → plan_with o m ≡ Ok p → (o ≡ Ok tt) × (m ≡ p)
+ok_planned (Ok x) m p e = (refl, cc)
+ok_planned (Err x) m p e = differ (cc)
+
+err_planned : (o : Result (Unit {0}) ProducerError) (m : TakePlan) (f : ProducerError) → plan_with o m ≡ Err f → o ≡ Err f
+err_planned (Ok x) m f e = differ (cc)
+err_planned (Err x) m f e = let same : x ≡ f = cc in ap Err same
 
 num_if : (b : Bool) (n : ℕ) → (present_if b n) ≡ pick b (Some n) None
 num_if true n = refl
@@ -177,13 +192,9 @@ module _ (s : ProducerState) (f : Full s) (d : FrameRecord) where
   -- the state once the frame is gone
   abbrev pub state_after : FrameRecord → ProducerState
   state_after r =
-      record {
+      record s {
         core = core_taken (stays_of r.kind) (held_count r.kind s.core.rings.held.len) s.core;
         outbound = set s.outbound (s.core.rings.outbound.head % 1024) (record_after r r.kind);
-        held = s.held;
-        pending = s.pending;
-        pending_ids = s.pending_ids;
-        pending_marks = s.pending_marks;
       }
 
   after_is : SingleMessage → 0 < s.core.rings.outbound.len → (r : FrameRecord)
@@ -294,26 +305,14 @@ module _ (s : ProducerState) (f : Full s) (d : FrameRecord) where
 
   -- ── the answer ──
 
-  abbrev pub Takes : List ℕ → List ℕ → List ℕ → OutboundAnswer → Type 0
-  Takes store before after a =
-      (◌≡◌ {A = Queue × Answer Frame} (view a.state, told_frame store after a) (next_outbound_frame store (length before) (view s)))
-      × ((after ≡ written (told_frame store after a) before) × Kept (told_frame store after a) s a.state)
+  abbrev pub Takes : List ℕ → List ℕ → List ℕ → Result OutboundFrame ProducerError → ProducerState → Type 0
+  Takes store before after a t =
+      (◌≡◌ {A = Queue × Answer Frame} (view t, told_frame store after a) (next_outbound_frame store (length before) (view s)))
+      × ((after ≡ written (told_frame store after a) before) × Kept (told_frame store after a) s t)
 
-  -- the answer with the plan's parts, and the state with its stores
-  abbrev pub answered : TakePlan → OutboundAnswer
-  answered p =
-      record {
-        answer = p.answer;
-        frame = p.frame;
-        state = record {
-          core = p.core;
-          outbound = set s.outbound (s.core.rings.outbound.head % 1024) p.slot;
-          held = s.held;
-          pending = s.pending;
-          pending_ids = s.pending_ids;
-          pending_marks = s.pending_marks;
-        };
-      }
+  -- the state with the plan's stores
+  abbrev pub stored_as : TakePlan → ProducerState
+  stored_as p = record s { core = p.core; outbound = set s.outbound (s.core.rings.outbound.head % 1024) p.slot }
 
   module _ (store before : List ℕ) (small : length store < 2 ^ 63) (short : length before < 2 ^ 63) where
     abbrev kind : FrameKind
@@ -359,59 +358,52 @@ module _ (s : ProducerState) (f : Full s) (d : FrameRecord) where
       some : 0 < s.core.rings.outbound.len
       inside : span.inside ≡ true
       fits : ltb (length before) span.len ≡ false
-      is : answer ≡ (Ok tt)
 
-    not_refused : (b : Bool) → b ≡ false → b ≡ true → ◌≡◌ {A = ℕ} 0 1
-    not_refused b x y = cc
-
-    accepted : is_done answer ≡ true → Accepted
+    accepted : answer ≡ Ok tt → Accepted
     accepted t = by (dec_lt 0 s.core.rings.outbound.len) span.inside refl (ltb (length before) span.len) refl
       where
         by : Dec (0 < s.core.rings.outbound.len) → (i : Bool) → span.inside ≡ i → (l : Bool) → ltb (length before) span.len ≡ l → Accepted
         by (no p) i e l x =
             let z : s.core.rings.outbound.len ≡ 0 = omega arith in
             let a : answer ≡ Err NoFrame = pick_true _ _ (eq-eqb s.core.rings.outbound.len 0 z) in
-            differ (not_refused (is_done answer) (ap is_done a) t)
+            not_both NoFrame a t
         by (yes p) false e l x =
             let a : answer ≡ Err PartOutside = pick_false _ _ (ne_eqb s.core.rings.outbound.len 0 (λ z. omega arith)) ∙ pick_false _ _ e in
-            differ (not_refused (is_done answer) (ap is_done a) t)
+            not_both PartOutside a t
         by (yes p) true e true x =
             let a : answer ≡ Err TooShort =
             pick_false _ _ (ne_eqb s.core.rings.outbound.len 0 (λ z. omega arith)) ∙ pick_true _ _ e ∙ pick_true _ _ x in
-            differ (not_refused (is_done answer) (ap is_done a) t)
+            not_both TooShort a t
         by (yes p) true e false x =
             record {
               some = p;
               inside = e;
               fits = x;
-              is = pick_false _ _ (ne_eqb s.core.rings.outbound.len 0 (λ z. omega arith)) ∙ pick_true _ _ e ∙ pick_false _ _ x;
             }
 
-    abbrev Refuses : OutboundFrame → Result (Unit {0}) ProducerError → Type 0
-    Refuses fr o = Takes store before before (record { answer = o; frame = fr; state = s })
-
-    refused_is : (fr : OutboundFrame) → is_done answer ≡ false → Takes store before before (record { answer = answer; frame = fr; state = s })
-    refused_is fr t = by (dec_lt 0 s.core.rings.outbound.len) span.inside refl (ltb (length before) span.len) refl
+    refused_is : (err : ProducerError) → answer ≡ Err err → Takes store before before (Err err) s
+    refused_is err t = by (dec_lt 0 s.core.rings.outbound.len) span.inside refl (ltb (length before) span.len) refl
       where
-        by : Dec (0 < s.core.rings.outbound.len) → (i : Bool) → span.inside ≡ i → (l : Bool) → ltb (length before) span.len ≡ l → Refuses fr answer
+        on : (f : ProducerError) → answer ≡ Err f → Takes store before before (Err f) s → Takes store before before (Err err) s
+        on f a = subst (λ (g : ProducerError). Takes store before before (Err g) s) (same_err f err (sym a ∙ t))
+
+        by : Dec (0 < s.core.rings.outbound.len) → (i : Bool) → span.inside ≡ i → (l : Bool) → ltb (length before) span.len ≡ l
+            → Takes store before before (Err err) s
         by (no p) i e l x =
             let z : s.core.rings.outbound.len ≡ 0 = omega arith in
-            let a : answer ≡ Err NoFrame = pick_true _ _ (eq-eqb s.core.rings.outbound.len 0 z) in
-            subst (Refuses fr) (sym a) (sym (nothing z), (refl, refl))
+            on NoFrame (pick_true _ _ (eq-eqb s.core.rings.outbound.len 0 z)) (sym (nothing z), (refl, refl))
         by (yes p) false e l x =
-            let a : answer ≡ Err PartOutside = pick_false _ _ (ne_eqb s.core.rings.outbound.len 0 (λ z. omega arith)) ∙ pick_false _ _ e in
-            subst (Refuses fr) (sym a) (sym (outside p e), (refl, refl))
+            on PartOutside (pick_false _ _ (ne_eqb s.core.rings.outbound.len 0 (λ z. omega arith)) ∙ pick_false _ _ e) (sym (outside p e), (refl, refl))
         by (yes p) true e true x =
-            let a : answer ≡ Err TooShort =
-            pick_false _ _ (ne_eqb s.core.rings.outbound.len 0 (λ z. omega arith)) ∙ pick_true _ _ e ∙ pick_true _ _ x in
-            subst (Refuses fr) (sym a) (sym (too_short p e x), (refl, refl))
+            on TooShort (pick_false _ _ (ne_eqb s.core.rings.outbound.len 0 (λ z. omega arith)) ∙ pick_true _ _ e ∙ pick_true _ _ x)
+            (sym (too_short p e x), (refl, refl))
         by (yes p) true e false x =
             let a : answer ≡ (Ok tt) =
             pick_false _ _ (ne_eqb s.core.rings.outbound.len 0 (λ z. omega arith)) ∙ pick_true _ _ e ∙ pick_false _ _ x in
-            differ (not_refused (is_done answer) t (ap is_done a))
+            not_both err t a
 
     -- the payload can be written
-    writable_is : is_done answer ≡ true → Writable store kind span (first_of kind) before
+    writable_is : answer ≡ Ok tt → Writable store kind span (first_of kind) before
     writable_is t =
         let a = accepted t in
         let w = written_is store front_of small kind a.inside in
@@ -423,8 +415,8 @@ module _ (s : ProducerState) (f : Full s) (d : FrameRecord) where
           room = subst (λ (bytes : List ℕ). Room bytes 0 before) (sym w.bytes) (record { fits = omega arith });
         }
 
-    done_is : (after : List ℕ) (x : ℕ) → is_done answer ≡ true → Puts (payload_of store kind span (first_of kind)) 0 before after x
-        → Takes store before after (record { answer = answer; frame = frame_out s.core.handle front_of kind span.len; state = state_after front_of })
+    done_is : (after : List ℕ) (x : ℕ) → answer ≡ Ok tt → Puts (payload_of store kind span (first_of kind)) 0 before after x
+        → Takes store before after (Ok (frame_out s.core.handle front_of kind span.len)) (state_after front_of)
     done_is after x t v =
         let a = accepted t in
         let w = written_is store front_of small kind a.inside in
@@ -434,10 +426,7 @@ module _ (s : ProducerState) (f : Full s) (d : FrameRecord) where
         let left : after ≡ bytes ++ drop (length bytes) before =
         (subst (λ (l : List ℕ). Puts l 0 before after x) w.bytes v).left ∙ ap (λ (k : ℕ). bytes ++ drop k before) (zero-add (length bytes)) in
         let start : take span.len after ≡ bytes = ap (take span.len) left ∙ take_at bytes (drop (length bytes) before) span.len size in
-        let frame = frame_is store front_of after span.len kind start in
-        subst
-        (λ (o : Result (Unit {0}) ProducerError). Takes store before after (record { answer = o; frame = frame_out s.core.handle front_of kind span.len; state = state_after front_of }))
-        (sym a.is) (
+        let frame = frame_is store front_of after span.len kind start in (
           (λ j. (after_is some_message a.some front_of j, done (frame j))) ∙ sym (goes a.some a.inside a.fits),
           (left ∙ ap (λ (g : Frame). g.payload ++ drop (length g.payload) before) (sym frame), tt),
         )
@@ -453,28 +442,33 @@ module _ (s : ProducerState) (f : Full s) (d : FrameRecord) where
           subst (λ (c : ℕ). (x : Span) → x ≡ span_of (length store) front_of kind (held_first c) → P x c) (sym ce)
           (λ x e. subst (λ (y : Span). P y (held_count kind s.core.rings.held.len)) (sym e) q) got se
 
-      module _ (plan : TakePlan) (pe : plan ≡ take_planned s.core front_of got count (length before)) where
+      module _ (plan : Result TakePlan ProducerError) (pe : plan ≡ take_planned s.core front_of got count (length before)) where
         planned_is : plan ≡ take_planned s.core front_of span (held_count kind s.core.rings.held.len) (length before)
         planned_is =
             as_planned (λ x c. plan ≡ take_planned s.core front_of x c (length before) → plan ≡ take_planned s.core front_of span (held_count kind s.core.rings.held.len) (length before))
             (λ e. e) pe
 
-        pub takes_refused : plan.done ≡ false → Takes store before before (record { answer = plan.answer; frame = plan.frame; state = s })
-        takes_refused t =
-            subst (λ (p : TakePlan). p.done ≡ false → Takes store before before (record { answer = p.answer; frame = p.frame; state = s })) (sym planned_is)
-            (λ u. refused_is (frame_out s.core.handle front_of kind span.len) u) t
+        abbrev made : TakePlan
+        made =
+            record {
+              core = core_taken (stays_of kind) (held_count kind s.core.rings.held.len) s.core;
+              slot = record_after front_of kind;
+              frame = frame_out s.core.handle front_of kind span.len;
+            }
 
-        pub takes_done : (after : List ℕ) (x : ℕ) → plan.done ≡ true → Puts (payload_of store kind got (held_first count)) 0 before after x → Takes store before after (answered plan)
-        takes_done after x t v =
-            subst (λ (p : TakePlan). p.done ≡ true → Takes store before after (answered p)) (sym planned_is)
-            (λ u.
-            done_is after x u
+        pub takes_refused : (e : ProducerError) → plan ≡ Err e → Takes store before before (Err e) s
+        takes_refused e t = refused_is e (err_planned answer made e (sym planned_is ∙ t))
+
+        pub takes_done : (p : TakePlan) → plan ≡ Ok p → (after : List ℕ) (x : ℕ) → Puts (payload_of store kind got (held_first count)) 0 before after x
+            → Takes store before after (Ok p.frame) (stored_as p)
+        takes_done p t after x v =
+            let both = ok_planned answer made p (sym planned_is ∙ t) in
+            subst (λ (q : TakePlan). Takes store before after (Ok q.frame) (stored_as q)) both.1
+            (done_is after x both.0
             (as_planned
             (λ y c. Puts (payload_of store kind y (held_first c)) 0 before after x → Puts (payload_of store kind span (first_of kind)) 0 before after x)
             (λ w. w) v))
-            t
 
-        pub takes_writable : plan.done ≡ true → Writable store kind got (held_first count) before
-        takes_writable t =
-            as_planned (λ y c. Writable store kind y (held_first c) before)
-            (subst (λ (p : TakePlan). p.done ≡ true → Writable store kind span (first_of kind) before) (sym planned_is) writable_is t)
+        pub takes_writable : (p : TakePlan) → plan ≡ Ok p → Writable store kind got (held_first count) before
+        takes_writable p t =
+            as_planned (λ y c. Writable store kind y (held_first c) before) (writable_is (ok_planned answer made p (sym planned_is ∙ t)).0)

@@ -1,5 +1,5 @@
 -- What one push of a plan does to the queue that a state stands for: it is the push onto the list, the full ring included. Assumes nothing.
-use Rattle.std.proofs.Common.{◌≡◌, ℕ, ◌<◌, min, true, List, length, ap, ◌∙◌, lit<}
+use Rattle.std.proofs.Common.{◌≡◌, ℕ, ◌<◌, min, List, length, refl, ap, ◌∙◌, lit<}
 use Rattle.laws.specs.Lists.{onto}
 use Rattle.laws.specs.Numbers.{add_sat}
 use Rattle.laws.specs.Ring.{ring}
@@ -13,11 +13,13 @@ use Rattle.queue.specs.Queue.{Outgoing, with_out}
 use Rattle.queue.specs.Batch.{push}
 use Rattle.queue.specs.Ids.{assigned}
 use Rattle.queue.specs.Send.{accept}
-use Rattle.plans.specs.Delta.{pushed, accepted, held, entry_place}
+use Rattle.rules.specs.Rings.{place_behind, longer_behind}
+use Rattle.plans.specs.Delta.{pushed, accepted, held}
 use Rattle.producer.specs.View.{view, entry_of, entries}
 use Rattle.producer.specs.Apply.{store_core, store_frame, store_entry, store_held}
 use Rattle.producer.specs.declared.state.ProducerState.{ProducerState}
-use Rattle.producer.proofs.Entries.{entries_set_if, length_entries}
+use Rattle.producer.proofs.Entries.{entries_put, length_entries}
+use Rattle.producer.proofs.Stores.{stored_at}
 use Rattle.producer.proofs.Full.{Full}
 
 abbrev p1024 : 0 < 1024
@@ -42,11 +44,15 @@ module _ (s : ProducerState) (f : Full s) where
   all_length = length_entries 256 s.pending_ids s.pending_marks s.pending f.ids f.marks f.pending
 
   pub pushes : (r : FrameRecord) (n : ℕ)
-      → view (store_frame (pushed r n s.core).frame (store_core (pushed r n s.core).core s)) ≡ with_out (push r n (view s).out) (view s)
+      → view (store_frame (pushed r n s.core).put (store_core (pushed r n s.core).core s)) ≡ with_out (push r n (view s).out) (view s)
   unfolding view
   pushes r n =
       let c = s.core in
       let k = c.rings in
+      let e =
+      ap (λ (l : List FrameRecord). ring 1024 l k.outbound.head (longer_behind 1024 k.outbound).len)
+      (stored_at (λ (x : FrameRecord). x) (place_behind 1024 k.outbound) r s.outbound)
+      ∙ ring_onto 1024 p1024 s.outbound f.outbound k.outbound.head k.outbound.len r in
       λ j.
       record {
         handle = c.handle;
@@ -55,7 +61,7 @@ module _ (s : ProducerState) (f : Full s) where
         counters = c.counters;
         pending = ring 256 (entries s.pending_ids s.pending_marks s.pending) k.pending.head k.pending.len;
         out = record {
-          frames = ring_onto 1024 p1024 s.outbound f.outbound k.outbound.head k.outbound.len true r j;
+          frames = e j;
           waiting = add_sat k.waiting n;
           held = ring 512 s.held k.held.head k.held.len;
           batch = c.batch;
@@ -63,11 +69,15 @@ module _ (s : ProducerState) (f : Full s) where
       }
 
   pub holds : (m : SingleMessage)
-      → view (store_held (held m s.core).held (store_core (held m s.core).core s)) ≡ with_out (holding m (view s).out) (view s)
+      → view (store_held (held m s.core).put (store_core (held m s.core).core s)) ≡ with_out (holding m (view s).out) (view s)
   unfolding view
   holds m =
       let c = s.core in
       let k = c.rings in
+      let e =
+      ap (λ (l : List SingleMessage). ring 512 l k.held.head (longer_behind 512 k.held).len)
+      (stored_at (λ (x : SingleMessage). x) (place_behind 512 k.held) m s.held)
+      ∙ ring_onto 512 p512 s.held f.held k.held.head k.held.len m in
       λ j.
       record {
         handle = c.handle;
@@ -78,24 +88,24 @@ module _ (s : ProducerState) (f : Full s) where
         out = record {
           frames = ring 1024 s.outbound k.outbound.head k.outbound.len;
           waiting = k.waiting;
-          held = ring_onto 512 p512 s.held f.held k.held.head k.held.len true m j;
+          held = e j;
           batch = c.batch;
         };
       }
 
   pub accepts : (p : Publish)
-      → view (store_entry (accepted p s.core).entry (store_core (accepted p s.core).core s))
+      → view (store_entry (accepted p s.core).put (store_core (accepted p s.core).core s))
       ≡ accept (entry_of s.core.ids.next_sequence_id 1 p) (view s)
   unfolding view all
   accepts p =
       let c = s.core in
       let k = c.rings in
-      let place = entry_place k in
+      let place = place_behind 256 k.pending in
       let id = c.ids.next_sequence_id in
       let e =
-      ap (λ (l : List OpSend). ring 256 l k.pending.head place.len)
-      (entries_set_if place.put s.pending_ids s.pending_marks s.pending place.at id 1 p)
-      ∙ ring_onto 256 p256 all all_length k.pending.head k.pending.len true (entry_of id 1 p) in
+      ap (λ (l : List OpSend). ring 256 l k.pending.head (longer_behind 256 k.pending).len)
+      (entries_put place s.pending_ids s.pending_marks s.pending (entry_of id 1 p) refl)
+      ∙ ring_onto 256 p256 all all_length k.pending.head k.pending.len (entry_of id 1 p) in
       λ j.
       record {
         handle = c.handle;

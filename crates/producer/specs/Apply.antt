@@ -1,74 +1,37 @@
 -- The stores of a plan, one by one. These mirror the code.
-use Rattle.std.specs.Prelude.{◌<◌, Bool}
-use Rattle.laws.specs.Lists.{set_if}
+use Rattle.std.specs.Prelude.{List, set, Option, Some, None}
+use Rattle.std.specs.Int.{from_bool}
+use Rattle.types.specs.declared.entry.OpSend.{OpSend}
+use Rattle.types.specs.declared.frame.FrameRecord.{FrameRecord}
+use Rattle.types.specs.declared.message.SingleMessage.{SingleMessage}
 use Rattle.plans.specs.declared.state.Core.{Core}
-use Rattle.plans.specs.declared.delta.FramePut.{FramePut}
-use Rattle.plans.specs.declared.delta.EntryPut.{EntryPut}
-use Rattle.plans.specs.declared.delta.HeldPut.{HeldPut}
+use Rattle.plans.specs.declared.delta.Put.{Put}
 use Rattle.plans.specs.declared.delta.SendDelta.{SendDelta}
 use Rattle.producer.specs.declared.state.ProducerState.{ProducerState}
 
 abbrev pub store_core : Core → ProducerState → ProducerState
-store_core c s =
-    record {
-      core = c;
-      outbound = s.outbound;
-      held = s.held;
-      pending = s.pending;
-      pending_ids = s.pending_ids;
-      pending_marks = s.pending_marks;
-    }
+store_core c s = record s { core = c }
 
-abbrev pub frame_if : Bool → FramePut → ProducerState → ProducerState
-frame_if b p s =
-    record {
-      core = s.core;
-      outbound = set_if b s.outbound p.at p.frame;
-      held = s.held;
-      pending = s.pending;
-      pending_ids = s.pending_ids;
-      pending_marks = s.pending_marks;
-    }
+-- a part of a record goes to the record's place, if there is one
+abbrev pub stored : {A B : Type 0} → (A → B) → Option (Put A) → List B → List B
+stored part None l = l
+stored part (Some p) l = set l p.at (part p.value)
 
-abbrev pub store_frame : FramePut → ProducerState → ProducerState
-store_frame p s = frame_if p.put p s
+abbrev pub store_frame : Option (Put FrameRecord) → ProducerState → ProducerState
+store_frame p s = record s { outbound = stored (λ r. r) p s.outbound }
 
 -- the three parts of an entry go to one place
-abbrev pub entry_if : Bool → EntryPut → ProducerState → ProducerState
-entry_if b p s =
-    record {
-      core = s.core;
-      outbound = s.outbound;
-      held = s.held;
-      pending = set_if b s.pending p.at p.publish;
-      pending_ids = set_if b s.pending_ids p.at p.id;
-      pending_marks = set_if b s.pending_marks p.at p.mark;
+abbrev pub store_entry : Option (Put OpSend) → ProducerState → ProducerState
+store_entry p s =
+    record s {
+      pending = stored (λ op. op.publish) p s.pending;
+      pending_ids = stored (λ op. op.sequence_id.0) p s.pending_ids;
+      pending_marks = stored (λ op. from_bool op.answerable) p s.pending_marks;
     }
 
-abbrev pub store_entry : EntryPut → ProducerState → ProducerState
-store_entry p s = entry_if p.put p s
-
-abbrev pub held_if : Bool → HeldPut → ProducerState → ProducerState
-held_if b p s =
-    record {
-      core = s.core;
-      outbound = s.outbound;
-      held = set_if b s.held p.at p.single;
-      pending = s.pending;
-      pending_ids = s.pending_ids;
-      pending_marks = s.pending_marks;
-    }
-
-abbrev pub store_held : HeldPut → ProducerState → ProducerState
-store_held p s = held_if p.put p s
+abbrev pub store_held : Option (Put SingleMessage) → ProducerState → ProducerState
+store_held p s = record s { held = stored (λ m. m) p s.held }
 
 -- all of them
 abbrev pub applied : SendDelta → ProducerState → ProducerState
 applied d s = store_held d.held (store_entry d.entry (store_frame d.second (store_frame d.first (store_core d.core s))))
-
--- every place is one of its ring
-pub record InRange (d : SendDelta) : Type 0 where
-  pub first : d.first.at < 1024
-  pub second : d.second.at < 1024
-  pub entry : d.entry.at < 256
-  pub held : d.held.at < 512

@@ -1,8 +1,8 @@
-pub mod Answers
 pub mod Apply
 pub mod Replay
 pub mod Runs
 pub mod Send
+pub mod Settings
 pub mod Settle
 pub mod Tables
 pub mod Take

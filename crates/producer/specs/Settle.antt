@@ -1,5 +1,5 @@
 -- What the steps of settling leave of a state.
-use Rattle.std.specs.Prelude.{◌≡◌, ℕ, ◌-◌, ◌<◌, min, map, length, slice_index_or, Err, None, Ok, Option, Some}
+use Rattle.std.specs.Prelude.{◌≡◌, ℕ, ◌-◌, ◌<◌, min, map, length, slice_index_or, Err, None, Ok, Option, Result, Some}
 use Rattle.laws.specs.Lists.{without}
 use Rattle.laws.specs.Ring.{ring}
 use Rattle.types.specs.declared.error.ProducerError.TheVariants.{NotAnswerable}
@@ -8,7 +8,7 @@ use Rattle.queue.specs.Queue.{with_pending}
 use Rattle.queue.specs.Settle.{unmark}
 use Rattle.upkeep.specs.Pending.{Key, located, cleared_all}
 use Rattle.producer.specs.View.{view, slots_of}
-use Rattle.producer.specs.declared.settle.Settled.{Settled}
+use Rattle.types.specs.declared.error.ProducerError.{ProducerError}
 use Rattle.producer.specs.declared.state.ProducerState.{ProducerState}
 
 -- a state with the pending slots of another
@@ -42,16 +42,16 @@ unmarked id s =
     }
 
 -- what settling an id answers: the entry and the queue without it, or 11 and the very state
-abbrev pub settles_at : ℕ → ProducerState → Settled → Option ℕ → Type 0
-settles_at id s r None = (r.answer ≡ Err NotAnswerable) × (r.state ≡ s)
-settles_at id s r (Some i) =
-    (i < length (view s).pending)
-    × (r.answer ≡ (Ok tt))
-    × (slice_index_or (view s).pending i r.op ≡ r.op)
-    × (view r.state ≡ with_pending (without (map (unmark id) (view s).pending) i) (view s))
+abbrev pub settles_at : ℕ → ProducerState → Result OpSend ProducerError → ProducerState → Option ℕ → Type 0
+settles_at id s a t None = (a ≡ Err NotAnswerable) × (t ≡ s)
+settles_at id s a t (Some i) =
+    (op : OpSend) × (i < length (view s).pending)
+    × (a ≡ Ok op)
+    × (slice_index_or (view s).pending i op ≡ op)
+    × (view t ≡ with_pending (without (map (unmark id) (view s).pending) i) (view s))
 
 abbrev pub key_of : OpSend → Key
 key_of op = (op.sequence_id.0, op.answerable)
 
-abbrev pub Settles : ℕ → ProducerState → Settled → Type 0
-Settles id s r = settles_at id s r (located id (map key_of (view s).pending))
+abbrev pub Settles : ℕ → ProducerState → Result OpSend ProducerError → ProducerState → Type 0
+Settles id s a t = settles_at id s a t (located id (map key_of (view s).pending))

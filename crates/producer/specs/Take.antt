@@ -1,15 +1,15 @@
 -- What the answer of a take says: its parts are the store's bytes, and its payload is the start of the buffer after the call.
-use Rattle.std.specs.Prelude.{ℕ, List, take, ◌==◌, None, Option, Some}
+use Rattle.std.specs.Prelude.{ℕ, List, take, ◌==◌, Err, Ok, Option, Result}
 use Rattle.laws.specs.Choice.{pick}
 use Rattle.types.specs.Values.{part_of, bytes_of, name_of}
 use Rattle.types.specs.declared.outbound.CommandSend.{CommandSend}
 use Rattle.types.specs.declared.outbound.MessageMetadata.{MessageMetadata}
 use Rattle.types.specs.declared.outbound.FrameName.{FrameName}
 use Rattle.types.specs.declared.outbound.OutboundFrame.{OutboundFrame}
-use Rattle.queue.specs.Queue.{Answer}
+use Rattle.queue.specs.Queue.{Answer, done}
+use Rattle.types.specs.declared.error.ProducerError.{ProducerError}
 use Rattle.queue.specs.Frame.{Command, Metadata, Frame}
-use Rattle.queue.specs.Told.{told_giving}
-use Rattle.producer.specs.declared.take.OutboundAnswer.{OutboundAnswer}
+use Rattle.queue.specs.Told.{told_error}
 
 -- the message's own name where it is not empty, else the producer's
 abbrev pub name_told : List ℕ → FrameName → List ℕ
@@ -55,5 +55,6 @@ abbrev pub frame_told : List ℕ → List ℕ → OutboundFrame → Frame
 frame_told store buffer f =
     record { command = command_told f.command; metadata = metadata_told store f.metadata; payload = take f.payload_len buffer }
 
-abbrev pub told_frame : List ℕ → List ℕ → OutboundAnswer → Answer Frame
-told_frame store buffer r = told_giving r.answer (frame_told store buffer r.frame)
+abbrev pub told_frame : List ℕ → List ℕ → Result OutboundFrame ProducerError → Answer Frame
+told_frame store buffer (Ok f) = done (frame_told store buffer f)
+told_frame store buffer (Err e) = told_error e

@@ -1,39 +1,55 @@
-// The stores of a plan. It decides nothing.
+// The stores of a plan. They decide nothing; a place outside its ring stores nothing.
 ghost use Rattle.std.specs.Prelude.{◌≡◌};
-ghost use Rattle.producer.specs.Apply.{applied, InRange};
+ghost use Rattle.producer.specs.Apply.{applied, store_frame, store_entry, store_held};
 
 use crate::state::ProducerState;
-use plans::delta::SendDelta;
+use plans::delta::{Put, SendDelta};
+use types::entry::OpSend;
+use types::frame::FrameRecord;
+use types::message::SingleMessage;
 
 impl ProducerState {
+    pub fn store_frame(&mut self, put: Option<Put<FrameRecord>>)
+        ensures { self.new ≡ store_frame put self.old }
+    {
+        if let Some(p) = put {
+            if p.at < self.outbound.len() {
+                self.outbound[p.at] = p.value;
+            }
+        }
+    }
+
+    // The three parts of an entry go to one place.
+    pub fn store_entry(&mut self, put: Option<Put<OpSend>>)
+        ensures { self.new ≡ store_entry put self.old }
+    {
+        if let Some(p) = put {
+            if p.at < self.pending.len() {
+                self.pending[p.at] = p.value.publish;
+                self.pending_ids[p.at] = p.value.sequence_id.0;
+                self.pending_marks[p.at] = p.value.answerable as u8;
+            }
+        }
+    }
+
+    pub fn store_held(&mut self, put: Option<Put<SingleMessage>>)
+        ensures { self.new ≡ store_held put self.old }
+    {
+        if let Some(p) = put {
+            if p.at < self.held.len() {
+                self.held[p.at] = p.value;
+            }
+        }
+    }
+
     pub(crate) fn apply(mut self, d: SendDelta) -> Self
-        requires { InRange d }
         ensures { result ≡ applied d self }
     {
-        let c = d.core;
-        self.core = c;
-        if d.first.put {
-            let at1 = d.first.at;
-            let f1 = d.first.frame;
-            self.outbound[at1] = f1;
-        }
-        if d.second.put {
-            let at2 = d.second.at;
-            let f2 = d.second.frame;
-            self.outbound[at2] = f2;
-        }
-        if d.entry.put {
-            let at3 = d.entry.at;
-            let p = d.entry.publish;
-            self.pending[at3] = p;
-            self.pending_ids[at3] = d.entry.id;
-            self.pending_marks[at3] = d.entry.mark;
-        }
-        if d.held.put {
-            let at4 = d.held.at;
-            let m = d.held.single;
-            self.held[at4] = m;
-        }
+        self.core = d.core;
+        self.store_frame(d.first);
+        self.store_frame(d.second);
+        self.store_entry(d.entry);
+        self.store_held(d.held);
         self
     }
 }

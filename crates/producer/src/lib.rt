@@ -1,6 +1,7 @@
 // The send queue of a producer. Each operation is planned on the scalars (crate plans) and applied to the rings.
 #![tactic(auto)]
 
+pub mod answer;
 pub mod apply;
 pub mod drain;
 pub mod pending;

@@ -4,7 +4,7 @@ ghost use Rattle.producer.specs.View.{view};
 
 use crate::settle::op_of;
 use crate::state::ProducerState;
-use rules::numbers::at_most;
+use rules::rings::Rings;
 use types::entry::OpSend;
 
 impl ProducerState {
@@ -13,17 +13,16 @@ impl ProducerState {
         ensures { take (min self.now.core.rings.pending.len 256) result ≡ (view self.now).pending }
     {
         let head = self.core.rings.pending.head % 256;
-        let n = at_most(self.core.rings.pending.len, 256);
+        let n = self.core.rings.pending.len.min(Rings::PENDING);
         let any = self.op_at(0);
         let mut all = [any; 256];
-        let mut i: usize = 0;
-        while i < n {
+        for i in 0..n {
             let at = (head + i) % 256;
-            let publish = self.pending[at];
-            let id = self.pending_ids[at];
-            let mark = self.pending_marks[at];
-            all[i] = op_of(id, mark, publish);
-            i += 1;
+            all[i] = op_of(
+                self.pending_ids[at],
+                self.pending_marks[at],
+                self.pending[at],
+            );
         }
         all
     }

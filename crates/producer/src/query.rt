@@ -14,46 +14,38 @@ impl ProducerState {
         ensures { result ≡ next_send_deadline (view self) }
     {
         let at = self.core.rings.pending.head % 256;
-        let front = self.pending[at];
-        let c = self.core;
-        c.next_send_deadline(front.enqueued_at)
+        self.core.next_send_deadline(self.pending[at].enqueued_at)
     }
 
     pub fn next_batch_deadline(self) -> Option<u64>
         ensures { result ≡ next_batch_deadline (view self) }
     {
-        let c = self.core;
-        c.next_batch_deadline()
+        self.core.next_batch_deadline()
     }
 
     pub fn batch_deadline_elapsed(self, now: u64) -> bool
         ensures { result ≡ batch_deadline_elapsed now (view self) }
     {
-        let c = self.core;
-        let deadline = c.next_batch_deadline();
-        elapsed(now, deadline)
+        elapsed(now, self.core.next_batch_deadline())
     }
 
     // Whether a message of this payload size and count may join the open batch, if it is batchable.
     pub fn can_add_to_batch(self, payload_size: usize, num_messages: i32) -> bool
         ensures { result ≡ may_add payload_size num_messages (view self) }
     {
-        let c = self.core;
-        c.can_add_to_batch(payload_size, num_messages)
+        self.core.can_add_to_batch(payload_size, num_messages)
     }
 
     // The waiting frames, chunks counted singly.
     pub fn outbound_len(self) -> usize
         ensures { result ≡ outbound_len (view self) }
     {
-        let rings = self.core.rings;
-        outbound_len_of(rings)
+        outbound_len_of(self.core.rings)
     }
 
     pub fn stats(self) -> ProducerStats
         ensures { result ≡ stats (view self) }
     {
-        let counters = self.core.counters;
-        stats_of(counters, self.core.rings.pending.len)
+        stats_of(self.core.counters, self.core.rings.pending.len)
     }
 }

@@ -1,5 +1,5 @@
 // The replays (document 01, 'receipts, errors, snapshot, replay').
-ghost use Rattle.std.specs.Prelude.{◌≡◌, ◌≤◌, min, map, take};
+ghost use Rattle.std.specs.Prelude.{◌≡◌, ◌<◌, ◌≤◌, ◌^◌, min, map, take};
 ghost use Rattle.laws.specs.Lists.{front_all};
 ghost use Rattle.queue.specs.Queue.{with_out, with_pending};
 ghost use Rattle.queue.specs.Tables.{fronted, mark, replay_pending_outbound, replay_snapshots};
@@ -7,9 +7,9 @@ ghost use Rattle.queue.specs.Told.{Kept, told};
 ghost use Rattle.producer.specs.Replay.{frame_id, replayed_as};
 ghost use Rattle.producer.specs.View.{view};
 
-use crate::send::CountAnswer;
+use crate::answer::Answered;
 use crate::state::ProducerState;
-use rules::numbers::at_most;
+use rules::rings::Rings;
 use tables::entries::{again, frames_of, is_batched};
 use tables::load::{all_well_formed, load};
 use tables::pushes::frames_for;
@@ -17,69 +17,40 @@ use tables::unborne::unborne;
 use types::entry::OpSend;
 use types::error::ProducerError;
 
-#[derive(Clone, Copy)]
-pub struct ReplayAnswer {
-    pub answer: Result<(), ProducerError>,
-    pub state: ProducerState,
-}
-
 impl ProducerState {
     // The frames of the first n entries in front of those that wait, in order: the last entry's go first.
-    fn front_frames(mut self, ops: [OpSend; 256], n: usize) -> ProducerState
-        requires { n ≤ 256 }
-        ensures { view result ≡ with_out (fronted (take n ops) (view self).out) (view self) }
+    fn front_frames(&mut self, ops: [OpSend; 256], n: usize)
+        requires { (n ≤ 256) × (self.old.core.rings.waiting < 2 ^ 64) }
+        ensures { view self.new ≡ with_out (fronted (take n ops) (view self.old).out) (view self.old) }
     {
-        let mut i = n;
-        while 0 < i {
-            i -= 1;
+        for i in (0..n).rev() {
             let op = ops[i];
-            let publish = op.publish;
-            let replay = publish.replay;
-            let frame = again(op);
-            let c = self.core;
-            let p = c.front(!is_batched(replay), frame, frames_of(replay));
-            let core = p.core;
-            self.core = core;
-            if p.frame.put {
-                let at = p.frame.at;
-                let f = p.frame.frame;
-                self.outbound[at] = f;
-            }
+            let replay = op.publish.replay;
+            let p = self
+                .core
+                .front(!is_batched(replay), again(op), frames_of(replay));
+            self.core = p.core;
+            self.store_frame(p.put);
         }
-        self
     }
 
     // The first n entries in front of those that are pending, in order.
-    fn front_entries(mut self, ops: [OpSend; 256], n: usize) -> ProducerState
+    fn front_entries(&mut self, ops: [OpSend; 256], n: usize)
         requires { n ≤ 256 }
-        ensures { view result ≡ with_pending (front_all 256 (map mark (take n ops)) (view self).pending) (view self) }
+        ensures { view self.new ≡ with_pending (front_all 256 (map mark (take n ops)) (view self.old).pending) (view self.old) }
     {
-        let mut i = n;
-        while 0 < i {
-            i -= 1;
-            let op = ops[i];
-            let c = self.core;
-            let a = c.front_entry(op);
-            let core = a.core;
-            self.core = core;
-            if a.entry.put {
-                let at = a.entry.at;
-                let p = a.entry.publish;
-                self.pending[at] = p;
-                self.pending_ids[at] = a.entry.id;
-                self.pending_marks[at] = a.entry.mark;
-            }
+        for i in (0..n).rev() {
+            let p = self.core.front_entry(ops[i]);
+            self.core = p.core;
+            self.store_entry(p.put);
         }
-        self
     }
 
     // The index is rebuilt: every id is in it.
-    fn mark_all(mut self) -> ProducerState
-        ensures { view result ≡ with_pending (map mark (view self).pending) (view self) }
+    fn mark_all(&mut self)
+        ensures { view self.new ≡ with_pending (map mark (view self.old).pending) (view self.old) }
     {
-        let marks: [u8; 256] = [1; 256];
-        self.pending_marks = marks;
-        self
+        self.pending_marks = [1; 256];
     }
 
     // The ids of the waiting frames.
@@ -87,80 +58,74 @@ impl ProducerState {
         ensures { take (min self.now.core.rings.outbound.len 1024) result ≡ map frame_id (view self.now).out.frames }
     {
         let head = self.core.rings.outbound.head % 1024;
-        let n = at_most(self.core.rings.outbound.len, 1024);
+        let n = self.core.rings.outbound.len.min(Rings::OUTBOUND);
         let mut ids: [u64; 1024] = [0; 1024];
-        let mut i: usize = 0;
-        while i < n {
+        for i in 0..n {
             let at = (head + i) % 1024;
-            let frame = self.outbound[at];
-            let id = frame.sequence_id;
-            ids[i] = id.0;
-            i += 1;
+            ids[i] = self.outbound[at].sequence_id.0;
         }
         ids
     }
 
-    // Fronts the frames of the entries whose id no waiting frame bears, and answers how many.
-    pub fn replay_pending_outbound(mut self) -> CountAnswer
-        ensures answer_value { (view result.state, told result.answer) ≡ replay_pending_outbound (view self) }
-        ensures kept { Kept (told result.answer) self result.state }
+    fn resend(&mut self) -> Result<usize, ProducerError>
+        requires { self.old.core.rings.waiting < 2 ^ 64 }
+        ensures answer_value { (view self.new, told result) ≡ replay_pending_outbound (view self.old) }
+        ensures kept { Kept (told result) self.old self.new }
     {
-        let n = at_most(self.core.rings.pending.len, 256);
-        let m = at_most(self.core.rings.outbound.len, 1024);
+        let n = self.core.rings.pending.len.min(Rings::PENDING);
+        let m = self.core.rings.outbound.len.min(Rings::OUTBOUND);
         let ops = self.entries();
         let ids = self.waiting_ids();
         let left = unborne(&ids, m, ops, n);
         let entries = left.entries;
-        let len = left.len;
-        let c = self.core;
-        let answer = c.replay_count(frames_for(entries, len));
-        match answer {
-            Ok(_) => {
-                let s = self.front_frames(entries, len);
-                CountAnswer {
-                    answer: answer,
-                    state: s,
-                }
-            }
-            Err(_) => CountAnswer {
-                answer: answer,
-                state: self,
-            },
+        let count = self.core.replay_count(frames_for(entries, left.len))?;
+        self.front_frames(entries, left.len);
+        Ok(count)
+    }
+
+    // Fronts the frames of the entries whose id no waiting frame bears, and answers how many.
+    pub fn replay_pending_outbound(mut self) -> Answered<usize>
+        ensures answer_value { (view result.state, told result.answer) ≡ replay_pending_outbound (view self) }
+        ensures kept { Kept (told result.answer) self result.state }
+    {
+        let answer = self.resend();
+        Answered {
+            answer,
+            state: self,
         }
     }
 
     // `replay_snapshots` of a table of n entries, of which the first 256 are given, and of which it is known whether all are well formed.
-    fn replayed(mut self, well_formed: bool, table: [OpSend; 256], n: usize) -> ReplayAnswer
-        ensures answer_value { (view result.state, told result.answer) ≡ replayed_as well_formed n (take n table) (view self) }
-        ensures kept { Kept (told result.answer) self result.state }
+    fn replay(
+        &mut self,
+        well_formed: bool,
+        table: [OpSend; 256],
+        n: usize,
+    ) -> Result<(), ProducerError>
+        requires { self.old.core.rings.waiting < 2 ^ 64 }
+        ensures answer_value { (view self.new, told result) ≡ replayed_as well_formed n (take n table) (view self.old) }
+        ensures kept { Kept (told result) self.old self.new }
     {
-        let len = at_most(n, 256);
-        let c = self.core;
-        let answer = c.replay_answer(well_formed, n, frames_for(table, len));
-        match answer {
-            Ok(()) => {
-                let marked = self.mark_all();
-                let pending = marked.front_entries(table, len);
-                let s = pending.front_frames(table, len);
-                ReplayAnswer {
-                    answer: answer,
-                    state: s,
-                }
-            }
-            Err(_) => ReplayAnswer {
-                answer: answer,
-                state: self,
-            },
-        }
+        let len = n.min(Rings::PENDING);
+        self.core
+            .replay_answer(well_formed, n, frames_for(table, len))?;
+        self.mark_all();
+        self.front_entries(table, len);
+        self.front_frames(table, len);
+        Ok(())
     }
 
     // Puts the entries of a table and their frames at the front.
-    pub fn replay_snapshots(mut self, table: &[OpSend]) -> ReplayAnswer
+    pub fn replay_snapshots(mut self, table: &[OpSend]) -> Answered<()>
         ensures answer_value { (view result.state, told result.answer) ≡ replay_snapshots table.now (view self) }
         ensures kept { Kept (told result.answer) self result.state }
     {
         let well_formed = all_well_formed(table);
         let entries = load(table);
-        self.replayed(well_formed, entries, table.len())
+        let answer = self.replay(well_formed, entries, table.len());
+        Answered {
+            answer,
+            state: self,
+        }
     }
 }

@@ -6,25 +6,12 @@ ghost use Rattle.queue.specs.Told.{told_send, told, Kept};
 ghost use Rattle.producer.specs.View.{view};
 ghost use Rattle.producer.specs.Send.{sending, KeptSend};
 
+use crate::answer::Answered;
 use crate::state::ProducerState;
 use plans::send::Sending;
 use types::answer::SendDecision;
-use types::error::ProducerError;
 use types::memory_limit::MemoryReservation;
 use types::message::OutgoingMessage;
-
-#[derive(Clone, Copy)]
-pub struct SendAnswer {
-    pub answer: Result<SendDecision, ProducerError>,
-    pub state: ProducerState,
-}
-
-// Of a flush, a drain or a replay of what is pending.
-#[derive(Clone, Copy)]
-pub struct CountAnswer {
-    pub answer: Result<usize, ProducerError>,
-    pub state: ProducerState,
-}
 
 impl ProducerState {
     // An accepted send takes the reservation; a refused one leaves it with the caller.
@@ -36,24 +23,21 @@ impl ProducerState {
         uuid: [u8; 16],
         publish_time: u64,
         time: u64,
-    ) -> SendAnswer
+    ) -> Answered<SendDecision>
         ensures answer_value { (view result.state, told_send result.answer) ≡ queue_send (length store.now) (sending message reservation.bytes uuid publish_time time) (view self) }
         ensures kept_send { KeptSend message (view self) (told_send result.answer) self result.state }
     {
-        let c = self.core;
         let a = Sending {
-            message: message,
-            reservation: reservation,
-            uuid: uuid,
-            publish_time: publish_time,
+            message,
+            reservation,
+            uuid,
+            publish_time,
             now: time,
         };
-        let d = c.plan_send(store.len(), a);
-        let answer = d.answer;
-        let s = self.apply(d);
-        SendAnswer {
-            answer: answer,
-            state: s,
+        let d = self.core.plan_send(store.len(), a);
+        Answered {
+            answer: d.answer,
+            state: self.apply(d),
         }
     }
 
@@ -65,7 +49,7 @@ impl ProducerState {
         uuid: [u8; 16],
         publish_time: u64,
         time: u64,
-    ) -> SendAnswer
+    ) -> Answered<SendDecision>
         ensures answer_value { (view result.state, told_send result.answer) ≡ queue_send (length store.now) (sending message 0 uuid publish_time time) (view self) }
         ensures kept_send { KeptSend message (view self) (told_send result.answer) self result.state }
     {
@@ -74,22 +58,15 @@ impl ProducerState {
     }
 
     // The count of frames made, 0 or 1. As in the Rust the time of the call is not used.
-    pub fn flush_batch(mut self, publish_time: u64, _now: u64) -> CountAnswer
+    pub fn flush_batch(mut self, publish_time: u64, _now: u64) -> Answered<usize>
         ensures answer_value { (view result.state, told result.answer) ≡ flush_batch publish_time (view self) }
         ensures kept { Kept (told result.answer) self result.state }
     {
-        let c = self.core;
-        let d = c.plan_flush(publish_time);
-        let answer = d.answer;
-        let core = d.core;
-        self.core = core;
-        if d.frame.put {
-            let at = d.frame.at;
-            let f = d.frame.frame;
-            self.outbound[at] = f;
-        }
-        CountAnswer {
-            answer: answer,
+        let d = self.core.plan_flush(publish_time);
+        self.core = d.core;
+        self.store_frame(d.frame);
+        Answered {
+            answer: d.answer,
             state: self,
         }
     }

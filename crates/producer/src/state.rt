@@ -29,7 +29,6 @@ impl ProducerState {
     pub fn new(handle: ProducerHandle) -> ProducerState
         ensures { view result ≡ new_queue handle }
     {
-        let core = Core::new(handle);
         let message = no_message();
         let name = ProducerName {
             bytes: [0; 64],
@@ -62,7 +61,7 @@ impl ProducerState {
             replay: Replay::Batched,
         };
         ProducerState {
-            core: core,
+            core: Core::new(handle),
             outbound: [frame; 1024],
             held: [single; 512],
             pending: [publish; 256],

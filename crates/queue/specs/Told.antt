@@ -14,11 +14,6 @@ abbrev pub told : {A : Type 0} → Result A ProducerError → Answer A
 told (Ok x) = done x
 told (Err e) = told_error e
 
--- of a call that gives x where it is not refused
-abbrev pub told_giving : {A : Type 0} → Result (Unit {0}) ProducerError → A → Answer A
-told_giving (Ok tt) x = done x
-told_giving (Err e) x = told_error e
-
 abbrev pub told_send : Result SendDecision ProducerError → Answer Decision
 told_send (Ok (send.Emit n)) = done (emitted n)
 told_send (Ok send.Batched) = done batched

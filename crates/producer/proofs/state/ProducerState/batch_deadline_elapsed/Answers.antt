@@ -7,4 +7,4 @@ use Rattle.producer.proofs.state.ProducerState.batch_deadline_elapsed.Goals as g
 pub returns : goal.returns
 returns c =
     let a = c.args in
-    c.elapsed.ensures ∙ ap (has_elapsed a.now) c.next_batch_deadline-deadline.ensures ∙ batch_elapsed_lem a.self a.now
+    c.elapsed.ensures ∙ ap (has_elapsed a.now) c.next_batch_deadline.ensures ∙ batch_elapsed_lem a.self a.now

@@ -6,4 +6,4 @@ use Rattle.producer.proofs.Scalars.{with_core, closes}
 use Rattle.producer.proofs.state.ProducerState.close.Goals as goal
 
 pub returns : goal.returns
-returns c = let s = c.args.self in ap (λ (k : Core). view (with_core k s)) c.close-core.ensures ∙ closes s
+returns c = let s = c.args.self in ap (λ (k : Core). view (with_core k s)) c.close-self.ensures ∙ closes s

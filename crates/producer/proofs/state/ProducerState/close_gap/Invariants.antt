@@ -1,9 +1,5 @@
 use Rattle.producer.proofs.Gap.{Moving}
-use Rattle.std.proofs.Common.{◌-◌}
 use Rattle.producer.proofs.state.ProducerState.close_gap.Given as goal
 
 abbrev pub invariant-loop-i : goal.invariant-loop-i
 invariant-loop-i l = Moving l.initial.self l.place l.self l.i
-
-abbrev pub decreases-loop-i : goal.decreases-loop-i
-decreases-loop-i l = l.n - l.i

@@ -1,10 +1,6 @@
 -- `ProducerState::entries`: the array up to the count is the list of entries.
-use Rattle.std.proofs.Common.{◌-◌}
 use Rattle.producer.proofs.Listed.{Listing}
 use Rattle.producer.proofs.state.ProducerState.entries.Given as goal
 
 abbrev pub invariant-loop-i : goal.invariant-loop-i
 invariant-loop-i l = Listing l.self l.all l.i
-
-abbrev pub decreases-loop-i : goal.decreases-loop-i
-decreases-loop-i l = l.n - l.i

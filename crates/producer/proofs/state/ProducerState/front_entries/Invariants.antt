@@ -4,6 +4,3 @@ use Rattle.producer.proofs.state.ProducerState.front_entries.Given as goal
 
 abbrev pub invariant-loop-i : goal.invariant-loop-i
 invariant-loop-i l = Entering l.initial.self l.ops l.n l.self l.i
-
-abbrev pub decreases-loop-i : goal.decreases-loop-i
-decreases-loop-i l = l.i

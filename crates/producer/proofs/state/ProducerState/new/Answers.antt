@@ -3,4 +3,4 @@ use Rattle.producer.proofs.Fresh.{fresh}
 use Rattle.producer.proofs.state.ProducerState.new.Goals as goal
 
 pub returns : goal.returns
-returns c = fresh _ _ c.new-core.ensures
+returns c = fresh _ _ c.new.ensures

@@ -1,6 +1,6 @@
 -- `ProducerState::outbound_len`: it is stored.
 use Rattle.producer.specs.View.{view}
-use Rattle.producer.proofs.state.ProducerState.outbound.len.Goals as goal
+use Rattle.producer.proofs.state.ProducerState.outbound_len.Goals as goal
 
 pub returns : goal.returns
 unfolding view

@@ -8,11 +8,10 @@ use Rattle.queue.specs.Told.{told_send}
 use Rattle.plans.specs.declared.delta.SendDelta.{SendDelta}
 use Rattle.plans.specs.declared.send.Sending.{Sending}
 use Rattle.producer.specs.View.{view}
-use Rattle.producer.specs.Apply.{InRange}
 use Rattle.producer.specs.Send.{KeptSend}
 use Rattle.producer.specs.declared.state.ProducerState.{ProducerState}
 use Rattle.producer.proofs.Full.{full}
-use Rattle.producer.proofs.Sends.{brought, Sends, plan_sends, in_range}
+use Rattle.producer.proofs.Sends.{brought, Sends, plan_sends}
 use Rattle.producer.proofs.state.ProducerState.queue_send_reserved.Goals as goal
 
 abbrev given : OutgoingMessage → MemoryReservation → List ℕ → ℕ → ℕ → Sending
@@ -23,16 +22,14 @@ abbrev Sent : ProducerState → Sending → SendDelta → ProducerState → Outc
 Sent s a d r o =
     ◌≡◌ {A = Outcome Decision} (view r, told_send d.answer) o × KeptSend a.message (view s) (told_send d.answer) s r
 
-pub apply-s-requires : goal.apply-s-requires
-apply-s-requires c = let a = c.args in subst InRange (sym c.plan_send-d.ensures) (in_range (length a.store.now) (given a.message a.reservation a.uuid a.publish_time a.time) a.self.core)
-
 pub returns : goal.returns
 returns c =
-    let both =
     let a = c.args in
     let s = a.self in
+    let f = full s c.well_formed.0 in
     let g = given a.message a.reservation a.uuid a.publish_time a.time in
     let o = queue_send (length a.store.now) (brought g) (view s) in
-    subst (λ (r : ProducerState). Sent s g c.plan_send-d.result r o) (sym c.apply-s.ensures)
-    (subst (λ (d : SendDelta). Sends s (full s c.well_formed.0) g d o) (sym c.plan_send-d.ensures) (plan_sends s (full s c.well_formed.0) g (length a.store.now))) in
+    let both =
+    subst (λ (r : ProducerState). Sent s g c.plan_send-d.result r o) (sym c.apply.ensures)
+    (subst (λ (d : SendDelta). Sends s f g d o) (sym c.plan_send-d.ensures) (plan_sends s f g (length a.store.now))) in
     record { answer_value = both.0; kept_send = both.1 }

@@ -1,14 +1,20 @@
 -- `ProducerState::set_name`: the scalars and the answer are those planned.
-use Rattle.std.proofs.Common.{sym, subst}
-use Rattle.plans.specs.declared.settings.SetPlan.{SetPlan}
+use Rattle.std.proofs.Common.{sym, ap, subst, ◌∙◌}
+use Rattle.std.specs.Prelude.{Result}
+use Rattle.types.specs.declared.error.ProducerError.{ProducerError}
+use Rattle.plans.specs.declared.state.Core.{Core}
 use Rattle.queue.specs.Settings.{set_name}
 use Rattle.producer.specs.View.{view}
+use Rattle.producer.specs.Settings.{changed_by}
+use Rattle.producer.specs.declared.state.ProducerState.{ProducerState}
 use Rattle.producer.proofs.Scalars.{Sets, names}
 use Rattle.producer.proofs.state.ProducerState.set_name.Goals as goal
 
 pub returns : goal.returns
 returns c =
-    let both =
     let a = c.args in
-    subst (λ (p : SetPlan). Sets a.self p (set_name a.name.now (view a.self))) (sym c.set_name-p.ensures) (names a.self a.name.now) in
+    let s = a.self in
+    let both =
+    subst (λ (r : ProducerState × Result (Unit {0}) ProducerError). Sets s r (set_name a.name.now (view s)))
+    (sym (c.change-answer.ensures ∙ ap (λ (k : Result Core ProducerError). changed_by k s) c.set_name-plan.ensures)) (names s a.name.now) in
     record { answer_value = both.0; kept = both.1 }

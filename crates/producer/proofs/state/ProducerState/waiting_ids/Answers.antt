@@ -10,10 +10,10 @@ loop-i-preserved c =
     let h = c.type_inv.self in
     let f : Full s = record { outbound = h.1.0.1.0.1; held = h.1.1.0.1.0.1; pending = h.1.1.1.0.1.0.1; ids = h.1.1.1.1.0.1.0.1; marks = h.1.1.1.1.1.0.1.0.1 } in
     let k = c.loop-i in
-    naming_step s f k.ids k.i k.invariant _ (omega (arith, c.at_most-n.ensures))
+    naming_step s f k.ids k.i k.invariant _ (omega (arith, c.min-n.ensures))
 
 pub returns : goal.returns
 returns c =
     let s = c.args.self.now in
     let k = c.loop-i in
-    naming_all s k.ids k.i k.invariant (omega (arith, c.at_most-n.ensures))
+    naming_all s k.ids k.i k.invariant (omega (arith, c.min-n.ensures))
