@@ -1,6 +1,7 @@
 -- A message's bytes are as long as its fields say, for every store that its parts lie in: only the keys' lengths count.
 use Rattle.std.specs.Prelude.{None, Option, Some}
-use Prim.Native.Nat.{ℕ, ◌+◌, ◌≤◌}
+use Rattle.std.specs.Option.{ForSome}
+use Prim.Native.Nat.{ℕ, ◌+◌, ◌-◌, ◌^◌, ◌≤◌, min}
 use mathlib.Core.Path.{◌≡◌, refl, sym, ◌∙◌}
 use mathlib.Core.List.{List, [], ◌∷◌, ◌++◌}
 use mathlib.Core.Bool.{true}
@@ -8,37 +9,23 @@ use native.Mathlib.Omega.{arith}
 use lib.ListN.{length, drop, length-append, length-drop, length-replicate, replicate}
 use lib.Seq.{length-take-le}
 use borrow.Author.Tests.{leb-true}
-use Rattle.laws.specs.Numbers.{add_sat}
 use Rattle.types.specs.Values.{part_of, bytes_of, part_in, maybe_in}
 use Rattle.types.specs.declared.message.Part.{Part}
 use Rattle.types.specs.declared.message.SingleMessage.{SingleMessage}
 use Rattle.wire.specs.Proto.{varint_field, bytes_field, bool_field, optional, be32}
 use Rattle.wire.specs.Single.{single}
 use Rattle.wire.specs.Batch.{item, items, item_of, metadata_of, batch_payload, All, InStore}
+use Rattle.wire.specs.Fields.{part_length, part_field_length}
 use Rattle.wire.specs.Length.{zeros, stopped, single_length, item_length, batch_length}
 
 pub be32_length : (n : ℕ) → length (be32 n) ≡ 4
 unfolding be32
 be32_length n = refl
 
-pub part_end : (n : ℕ) (p : Part) → part_in n p ≡ true → p.start + p.len ≤ n
-part_end n p h = leb-true (p.start + p.len) n h
-
-pub part_length : (store : List ℕ) (p : Part) → part_in (length store) p ≡ true → length (part_of store p) ≡ p.len
-part_length store p h =
-    let e = part_end (length store) p h in
-    length-take-le p.len (drop p.start store) (rw length-drop (omega arith))
-
-same_length : (tag : ℕ) (a b : List ℕ) → length a ≡ length b → length (bytes_field tag a) ≡ length (bytes_field tag b)
-unfolding bytes_field
-same_length tag a b e = simp length-append (rw e)
-
 maybe_length : (store : List ℕ) (tag : ℕ) (x : Option Part) → maybe_in (length store) x ≡ true
     → length (optional (bytes_field tag) (bytes_of store x)) ≡ length (optional (bytes_field tag) (zeros x))
 maybe_length store tag None h = refl
-maybe_length store tag (Some p) h =
-    same_length tag (part_of store p) (replicate p.len 0)
-    (part_length store p h ∙ sym (length-replicate p.len 0))
+maybe_length store tag (Some p) h = part_field_length store tag p h
 
 module _ (store : List ℕ) (m : SingleMessage) (i : InStore (length store) m) where
   pub single_length_lem : length (single (metadata_of store m)) ≡ single_length m
@@ -65,24 +52,22 @@ batch_length_lem store (m ∷ ms) i =
 
 -- ── sums that stop ──
 
-stop_two : (a b : ℕ) → add_sat (stopped a) (stopped b) ≡ stopped (a + b)
-stop_two a b = omega arith
-
-pub stop_six : (a b c d e f : ℕ)
-    → add_sat (add_sat (add_sat (add_sat (add_sat (stopped a) (stopped b)) (stopped c)) (stopped d)) (stopped e)) (stopped f)
-    ≡ stopped (a + b + c + d + e + f)
-stop_six a b c d e f =
-    rw (stop_two a b, stop_two (a + b) c, stop_two (a + b + c) d, stop_two (a + b + c + d) e)
-    (stop_two (a + b + c + d + e) f)
-
 -- ── what the writer of a single metadata writes, field by field ──
+
+abbrev pub part_field : List ℕ → ℕ → Part → List ℕ
+part_field store tag p = bytes_field tag (part_of store p)
+
+maybe_part : (store : List ℕ) (tag : ℕ) (x : Option Part)
+    → optional (bytes_field tag) (bytes_of store x) ≡ optional (part_field store tag) x
+maybe_part store tag None = refl
+maybe_part store tag (Some p) = refl
 
 abbrev pub written : List ℕ → SingleMessage → List ℕ
 written store m =
-    optional (bytes_field 2) (bytes_of store m.partition_key)
+    optional (part_field store 2) m.partition_key
     ++ varint_field 3 m.payload.len
     ++ optional (varint_field 5) m.event_time
-    ++ optional (bytes_field 7) (bytes_of store m.ordering_key)
+    ++ optional (part_field store 7) m.ordering_key
     ++ optional (bool_field 9) m.null_value
     ++ optional (bool_field 10) m.null_partition_key
 
@@ -90,4 +75,23 @@ pub single_written : (store : List ℕ) (m : SingleMessage) → InStore (length 
     → single (metadata_of store m) ≡ written store m
 unfolding single
 single_written store m i =
-    rw (part_length store m.payload i.payload)
+    rw (part_length store m.payload i.payload, maybe_part store 2 m.partition_key, maybe_part store 7 m.ordering_key)
+
+pub maybe_stored : (n : ℕ) (x : Option Part) → maybe_in n x ≡ true → ForSome x (λ p. part_in n p ≡ true)
+maybe_stored n x h p e = rw e at h
+
+-- ── and how long it is, known without the store ──
+
+abbrev pub blank_field : ℕ → Part → List ℕ
+blank_field tag p = bytes_field tag (replicate p.len 0)
+
+maybe_blank : (tag : ℕ) (x : Option Part) → optional (bytes_field tag) (zeros x) ≡ optional (blank_field tag) x
+maybe_blank tag None = refl
+maybe_blank tag (Some p) = refl
+
+pub single_blank : (m : SingleMessage)
+    → single_length m
+    ≡ length (optional (blank_field 2) m.partition_key) + length (varint_field 3 m.payload.len) + length (optional (varint_field 5) m.event_time)
+    + length (optional (blank_field 7) m.ordering_key) + length (optional (bool_field 9) m.null_value) + length (optional (bool_field 10) m.null_partition_key)
+unfolding single_length single
+single_blank m = simp length-append (rw (maybe_blank 2 m.partition_key, maybe_blank 7 m.ordering_key))
