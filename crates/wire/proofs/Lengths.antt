@@ -1,22 +1,20 @@
 -- A message's bytes are as long as its fields say, for every store that its parts lie in: only the keys' lengths count.
 use Rattle.std.specs.Prelude.{None, Option, Some}
 use Rattle.std.specs.Option.{ForSome}
-use Prim.Native.Nat.{ℕ, ◌+◌, ◌-◌, ◌^◌, ◌≤◌, min}
-use mathlib.Core.Path.{◌≡◌, refl, sym, ◌∙◌}
+use Prim.Native.Nat.{ℕ, ◌+◌}
+use mathlib.Core.Path.{◌≡◌, refl}
 use mathlib.Core.List.{List, [], ◌∷◌, ◌++◌}
 use mathlib.Core.Bool.{true}
 use native.Mathlib.Omega.{arith}
-use lib.ListN.{length, drop, length-append, length-drop, length-replicate, replicate}
-use lib.Seq.{length-take-le}
-use borrow.Author.Tests.{leb-true}
+use lib.ListN.{length, length-append, replicate}
 use Rattle.types.specs.Values.{part_of, bytes_of, part_in, maybe_in}
 use Rattle.types.specs.declared.message.Part.{Part}
 use Rattle.types.specs.declared.message.SingleMessage.{SingleMessage}
 use Rattle.wire.specs.Proto.{varint_field, bytes_field, bool_field, optional, be32}
 use Rattle.wire.specs.Single.{single}
-use Rattle.wire.specs.Batch.{item, items, item_of, metadata_of, batch_payload, All, InStore}
+use Rattle.wire.specs.Batch.{Item, metadata, item, items, item_of, metadata_of, batch_payload, All, InStore}
 use Rattle.wire.specs.Fields.{part_length, part_field_length}
-use Rattle.wire.specs.Length.{zeros, stopped, single_length, item_length, batch_length}
+use Rattle.wire.specs.Length.{zeros, single_length, item_length, batch_length}
 
 pub be32_length : (n : ℕ) → length (be32 n) ≡ 4
 unfolding be32
@@ -26,6 +24,10 @@ maybe_length : (store : List ℕ) (tag : ℕ) (x : Option Part) → maybe_in (le
     → length (optional (bytes_field tag) (bytes_of store x)) ≡ length (optional (bytes_field tag) (zeros x))
 maybe_length store tag None h = refl
 maybe_length store tag (Some p) h = part_field_length store tag p h
+
+pub item_size : (i : Item) → length (item i) ≡ 4 + length (single (metadata i)) + length i.payload
+unfolding item
+item_size i = simp (length-append, be32_length)
 
 module _ (store : List ℕ) (m : SingleMessage) (i : InStore (length store) m) where
   pub single_length_lem : length (single (metadata_of store m)) ≡ single_length m
@@ -39,9 +41,9 @@ module _ (store : List ℕ) (m : SingleMessage) (i : InStore (length store) m) w
       ))
 
   pub item_length_lem : length (item (item_of store m)) ≡ item_length m
-  unfolding item item_length
+  unfolding item_length
   item_length_lem =
-      simp (length-append, be32_length) (omega (arith, single_length_lem, part_length store m.payload i.payload))
+      omega (arith, item_size (item_of store m), single_length_lem, part_length store m.payload i.payload)
 
 pub batch_length_lem : (store : List ℕ) (ms : List SingleMessage) → All (InStore (length store)) ms
     → length (batch_payload store ms) ≡ batch_length ms
@@ -79,6 +81,14 @@ single_written store m i =
 
 pub maybe_stored : (n : ℕ) (x : Option Part) → maybe_in n x ≡ true → ForSome x (λ p. part_in n p ≡ true)
 maybe_stored n x h p e = rw e at h
+
+pub single_size : (store : List ℕ) (m : SingleMessage) → InStore (length store) m
+    → length (single (metadata_of store m))
+    ≡ length (optional (part_field store 2) m.partition_key) + length (varint_field 3 m.payload.len) + length (optional (varint_field 5) m.event_time)
+    + length (optional (part_field store 7) m.ordering_key) + length (optional (bool_field 9) m.null_value) + length (optional (bool_field 10) m.null_partition_key)
+single_size store m i = rw (single_written store m i) (simp length-append)
+
+pub ruleset single_steps = (single_size, maybe_stored)
 
 -- ── and how long it is, known without the store ──
 

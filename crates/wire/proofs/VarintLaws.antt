@@ -78,3 +78,6 @@ negative_ten n h =
     let l : length (varint v) ≤ 10 = at_most_ten v (omega arith) in
     let m : 9 < length (varint v) = long 9 v (omega arith) in
     omega arith
+
+-- for a loop that takes one byte off what is left
+pub ruleset byte_steps = (small, large, at_most_ten)

@@ -3,23 +3,14 @@ use Prim.Native.Nat.{ℕ, ◌+◌, ◌-◌, ◌≤◌, ◌<◌}
 use mathlib.Core.Path.{◌≡◌, refl, sym, ap, ◌∙◌}
 use mathlib.Core.List.{List, [], ◌∷◌, ◌++◌, append_assoc, append-nil}
 use native.Mathlib.Omega.{arith}
-use native.Mathlib.Numerals.{add-one}
 use native.Mathlib.Nat.{add_assoc, add-zero, zero-add}
 use lib.ListN.{length, take, drop, set, length-append, length-take, length-drop, take-append-drop, drop_of_length-le}
-use lib.Seq.{take-suc-set, drop-set-lt, drop-drop, take_all, length-take-le, take-append_seam, drop-append-add, take-append-le, take-take, drop_at}
+use lib.Seq.{sets-eq, drop-drop, take_all, length-take-le, take-append_seam, drop-append-add, take-append-le, take-take, drop_at}
 use Rattle.wire.specs.Buffer.{Room, Puts}
 
--- a byte stored at i: one more is written, and the rest is still as it was
-pub front : (d : List ℕ) (i b : ℕ) → i < length d → take (i + 1) (set d i b) ≡ take i d ++ (b ∷ [])
-front d i b h = rw (add-one, take-suc-set)
-
-pub rest : (d₀ d : List ℕ) (i b : ℕ) → drop i d ≡ drop i d₀ → drop (i + 1) (set d i b) ≡ drop (i + 1) d₀
-rest d₀ d i b e = drop-set-lt (i + 1) d i b (omega arith) ∙ sym (drop-drop 1 i d) ∙ ap (drop 1) e ∙ drop-drop 1 i d₀
-
--- what is written up to i and what is left make the whole
-pub whole : (d₀ d bs : List ℕ) (at i : ℕ) → i ≡ at + length bs → take i d ≡ take at d₀ ++ bs → drop i d ≡ drop i d₀
-    → d ≡ take at d₀ ++ bs ++ drop (at + length bs) d₀
-whole d₀ d bs at i n e f = sym (take-append-drop i d) ∙ rw (e, f, n)
+-- a byte stored
+pub put_byte : (d : List ℕ) (i b : ℕ) → i < length d → Puts (b ∷ []) i d (set d i b) (i + 1)
+put_byte d i b h = record { room = omega arith; next = refl; left = sets-eq (b ∷ []) d i (omega arith) }
 
 -- nothing is written
 pub nothing : {d : List ℕ} {at : ℕ} → at ≤ length d → Puts [] at d d at
@@ -91,6 +82,10 @@ pub record Going (whole todo : List ℕ) (at : ℕ) (before after : List ℕ) (r
 
 pub going_start : {whole d : List ℕ} {at : ℕ} → Room whole at d → Going whole whole at d d at
 going_start {whole} {d} {at} r = let h = r.fits in record { done = []; sofar = nothing (omega arith); total = refl }
+
+pub going_fits : {whole todo d₀ d : List ℕ} {at n : ℕ} → Going whole todo at d₀ d n → at + length whole ≤ length d₀
+    → n + length todo ≤ length d
+going_fits g h = let v = g.sofar in omega (arith, v.next, same v, rw length-append at (ap length g.total))
 
 pub going_room : {whole a d₀ d : List ℕ} (b : List ℕ) {at n : ℕ} → Going whole (a ++ b) at d₀ d n → Room whole at d₀ → Room a n d
 going_room {whole} {a} b g r = first_room b (last_room g.sofar (rw (← g.total) at r))

@@ -1,5 +1,5 @@
 -- A field of a part is as long over a store as with zeros for the part's bytes, which is the law of `Field` at a part.
-use Rattle.std.proofs.Common.{◌≡◌, ℕ, ◌+◌, ◌≤◌, true, List, length, take, drop, replicate, ap, sym, ◌∙◌, arith, length-append, length-drop}
+use Rattle.std.proofs.Common.{◌≡◌, ℕ, ◌+◌, ◌≤◌, true, List, length, drop, replicate, arith, length-append, length-drop}
 use Rattle.std.proofs.lemmas.List.{length-take-le, length-replicate}
 use borrow.Author.Tests.{leb-true}
 use Rattle.types.specs.Values.{part_of, part_in}

@@ -10,6 +10,7 @@ use crate::single::{put_single, single_len};
 use types::message::{Part, SingleMessage};
 
 // How many bytes `put_item` writes.
+#[tactic(auto, unfolding(crate::specs::Length::item_length))]
 pub fn item_len(m: SingleMessage) -> usize
     ensures { result ≡ stopped (item_length m) }
 {
@@ -20,6 +21,7 @@ pub fn item_len(m: SingleMessage) -> usize
 
 // Writes the item from `at` on, and answers the next place. The rest of `out` is lent to the writer of the single metadata and
 // then to the payload copy; the four bytes before say what the first has written.
+#[tactic(auto, using(crate::proofs::Lengths::item_size))]
 pub fn put_item(out: &mut [u8], at: usize, store: &[u8], m: SingleMessage) -> usize
     requires { InStore (length store.now) m × Room (item (item_of store.now m)) at out.old }
     ensures { Puts (item (item_of store.now m)) at out.old out.new result }

@@ -1,10 +1,10 @@
 // Protocol Buffers fields: a varint, or bytes after their length. A tag is a u8, so that no key overflows.
-ghost use Rattle.std.specs.Prelude.{◌≡◌, ℕ, List, true, length, replicate, refl, None, Some};
+ghost use Rattle.std.specs.Prelude.{◌≡◌, ◌+◌, ◌≤◌, ℕ, List, true, length, replicate, refl, None, Some};
 ghost use Rattle.std.specs.Option.{ForSome};
 ghost use Rattle.types.specs.Values.{part_of, part_in};
 ghost use Rattle.wire.specs.Proto.{varint_field, bytes_field, bool_field, optional};
 ghost use Rattle.wire.specs.Length.{stopped};
-ghost use Rattle.wire.specs.Buffer.{Room, Puts};
+ghost use Rattle.wire.specs.Buffer.{Puts};
 ghost use Rattle.wire.specs.Fields.{part_field_length};
 
 use crate::copy::copy;
@@ -28,7 +28,8 @@ pub trait Field {
     ghost blank: { ℕ → Self → List ℕ };
 
     fn put_field(self, out: &mut [u8], at: usize, tag: u8, store: &[u8]) -> usize
-        requires { stored (length store.now) self × Room (bytes store.now tag self) at out.old }
+        requires stored { stored (length store.now) self }
+        requires room { at + length (bytes store.now tag self) ≤ length out.old }
         ensures { Puts (bytes store.now tag self) at out.old out.new result };
 
     // How many bytes `put_field` writes.
@@ -38,6 +39,7 @@ pub trait Field {
     ghost as_long: { (store : List ℕ) (tag : ℕ) (x : Self) → stored (length store) x → length (bytes store tag x) ≡ length (blank tag x) };
 }
 
+#[tactic(auto, unfolding(crate::specs::Proto::varint_field, crate::specs::Proto::key))]
 impl Field for u64 {
     ghost stored = { λ n v. Unit {0} };
 
@@ -76,6 +78,7 @@ impl Field for bool {
     }
 }
 
+#[tactic(auto, unfolding(crate::specs::Proto::bytes_field, crate::specs::Proto::key))]
 impl Field for Part {
     ghost stored = { λ n p. part_in n p ≡ true };
 

@@ -23,6 +23,7 @@ pub fn single_len(m: SingleMessage) -> usize
 }
 
 // Writes the single metadata to the start of `out`.
+#[tactic(auto, using(crate::proofs::Lengths::single_steps))]
 pub fn put_single(out: &mut [u8], store: &[u8], m: SingleMessage) -> usize
     requires { InStore (length store.now) m × Room (single (metadata_of store.now m)) 0 out.old }
     ensures { Puts (single (metadata_of store.now m)) 0 out.old out.new result }
