@@ -16,14 +16,59 @@ use Rattle.wire.specs.Batch.{Item, metadata, item, items, item_of, metadata_of, 
 use Rattle.wire.specs.Fields.{part_length, part_field_length}
 use Rattle.wire.specs.Length.{zeros, single_length, item_length, batch_length}
 
+-- a part under a tag, with the store's bytes, and with zeros for them
+abbrev part_field : List ℕ → ℕ → Part → List ℕ
+part_field store tag p = bytes_field tag (part_of store p)
+
+abbrev blank_field : ℕ → Part → List ℕ
+blank_field tag p = bytes_field tag (replicate p.len 0)
+
+maybe_part : (store : List ℕ) (tag : ℕ) (x : Option Part)
+    → optional (bytes_field tag) (bytes_of store x) ≡ optional (part_field store tag) x
+maybe_part store tag None = refl
+maybe_part store tag (Some p) = refl
+
+maybe_blank : (tag : ℕ) (x : Option Part) → optional (bytes_field tag) (zeros x) ≡ optional (blank_field tag) x
+maybe_blank tag None = refl
+maybe_blank tag (Some p) = refl
+
+maybe_length : (store : List ℕ) (tag : ℕ) (x : Option Part) → maybe_in (length store) x ≡ true
+    → length (optional (part_field store tag) x) ≡ length (optional (blank_field tag) x)
+maybe_length store tag None h = refl
+maybe_length store tag (Some p) h = part_field_length store tag p h
+
+pub maybe_stored : (n : ℕ) (x : Option Part) → maybe_in n x ≡ true → ForSome x (λ p. part_in n p ≡ true)
+maybe_stored n x h p e = rw e at h
+
+-- ── a single metadata, field by field ──
+
+abbrev fields : (ℕ → Part → List ℕ) → SingleMessage → List ℕ
+fields part m =
+    optional (part 2) m.partition_key
+    ++ varint_field 3 m.payload.len
+    ++ optional (varint_field 5) m.event_time
+    ++ optional (part 7) m.ordering_key
+    ++ optional (bool_field 9) m.null_value
+    ++ optional (bool_field 10) m.null_partition_key
+
+pub single_written : (store : List ℕ) (m : SingleMessage) → InStore (length store) m
+    → single (metadata_of store m) ≡ fields (part_field store) m
+unfolding single
+single_written store m i =
+    rw (part_length store m.payload i.payload, maybe_part store 2 m.partition_key, maybe_part store 7 m.ordering_key)
+
+pub single_blank : (m : SingleMessage) → single_length m ≡ length (fields blank_field m)
+unfolding single_length single
+single_blank m = rw (maybe_blank 2 m.partition_key, maybe_blank 7 m.ordering_key)
+
+-- for the functions that go through the six fields
+pub ruleset single_steps = (single_written, single_blank, maybe_stored, length-append)
+
+-- ── lengths ──
+
 pub be32_length : (n : ℕ) → length (be32 n) ≡ 4
 unfolding be32
 be32_length n = refl
-
-maybe_length : (store : List ℕ) (tag : ℕ) (x : Option Part) → maybe_in (length store) x ≡ true
-    → length (optional (bytes_field tag) (bytes_of store x)) ≡ length (optional (bytes_field tag) (zeros x))
-maybe_length store tag None h = refl
-maybe_length store tag (Some p) h = part_field_length store tag p h
 
 pub item_size : (i : Item) → length (item i) ≡ 4 + length (single (metadata i)) + length i.payload
 unfolding item
@@ -31,14 +76,9 @@ item_size i = simp (length-append, be32_length)
 
 module _ (store : List ℕ) (m : SingleMessage) (i : InStore (length store) m) where
   pub single_length_lem : length (single (metadata_of store m)) ≡ single_length m
-  unfolding single single_length
   single_length_lem =
-      simp length-append
-      (rw (
-        part_length store m.payload i.payload,
-        maybe_length store 2 m.partition_key i.partition_key,
-        maybe_length store 7 m.ordering_key i.ordering_key,
-      ))
+      rw (single_written store m i, single_blank m)
+      (simp length-append (rw (maybe_length store 2 m.partition_key i.partition_key, maybe_length store 7 m.ordering_key i.ordering_key)))
 
   pub item_length_lem : length (item (item_of store m)) ≡ item_length m
   unfolding item_length
@@ -51,57 +91,3 @@ unfolding items batch_length
 batch_length_lem store [] i = refl
 batch_length_lem store (m ∷ ms) i =
     simp length-append (omega (arith, item_length_lem store m i.0, batch_length_lem store ms i.1))
-
--- ── sums that stop ──
-
--- ── what the writer of a single metadata writes, field by field ──
-
-abbrev pub part_field : List ℕ → ℕ → Part → List ℕ
-part_field store tag p = bytes_field tag (part_of store p)
-
-maybe_part : (store : List ℕ) (tag : ℕ) (x : Option Part)
-    → optional (bytes_field tag) (bytes_of store x) ≡ optional (part_field store tag) x
-maybe_part store tag None = refl
-maybe_part store tag (Some p) = refl
-
-abbrev pub written : List ℕ → SingleMessage → List ℕ
-written store m =
-    optional (part_field store 2) m.partition_key
-    ++ varint_field 3 m.payload.len
-    ++ optional (varint_field 5) m.event_time
-    ++ optional (part_field store 7) m.ordering_key
-    ++ optional (bool_field 9) m.null_value
-    ++ optional (bool_field 10) m.null_partition_key
-
-pub single_written : (store : List ℕ) (m : SingleMessage) → InStore (length store) m
-    → single (metadata_of store m) ≡ written store m
-unfolding single
-single_written store m i =
-    rw (part_length store m.payload i.payload, maybe_part store 2 m.partition_key, maybe_part store 7 m.ordering_key)
-
-pub maybe_stored : (n : ℕ) (x : Option Part) → maybe_in n x ≡ true → ForSome x (λ p. part_in n p ≡ true)
-maybe_stored n x h p e = rw e at h
-
-pub single_size : (store : List ℕ) (m : SingleMessage) → InStore (length store) m
-    → length (single (metadata_of store m))
-    ≡ length (optional (part_field store 2) m.partition_key) + length (varint_field 3 m.payload.len) + length (optional (varint_field 5) m.event_time)
-    + length (optional (part_field store 7) m.ordering_key) + length (optional (bool_field 9) m.null_value) + length (optional (bool_field 10) m.null_partition_key)
-single_size store m i = rw (single_written store m i) (simp length-append)
-
-pub ruleset single_steps = (single_size, maybe_stored)
-
--- ── and how long it is, known without the store ──
-
-abbrev pub blank_field : ℕ → Part → List ℕ
-blank_field tag p = bytes_field tag (replicate p.len 0)
-
-maybe_blank : (tag : ℕ) (x : Option Part) → optional (bytes_field tag) (zeros x) ≡ optional (blank_field tag) x
-maybe_blank tag None = refl
-maybe_blank tag (Some p) = refl
-
-pub single_blank : (m : SingleMessage)
-    → single_length m
-    ≡ length (optional (blank_field 2) m.partition_key) + length (varint_field 3 m.payload.len) + length (optional (varint_field 5) m.event_time)
-    + length (optional (blank_field 7) m.ordering_key) + length (optional (bool_field 9) m.null_value) + length (optional (bool_field 10) m.null_partition_key)
-unfolding single_length single
-single_blank m = simp length-append (rw (maybe_blank 2 m.partition_key, maybe_blank 7 m.ordering_key))

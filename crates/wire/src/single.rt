@@ -9,7 +9,7 @@ use crate::field::Field;
 use types::message::SingleMessage;
 
 // How many bytes `put_single` writes: a flush has no store at hand.
-#[tactic(auto, using(crate::proofs::Lengths::single_blank))]
+#[tactic(auto, using(crate::proofs::Lengths::single_steps))]
 pub fn single_len(m: SingleMessage) -> usize
     ensures { result ≡ stopped (single_length m) }
 {

@@ -9,4 +9,4 @@ pub returns : goal.returns
 unfolding bytes_field key
 returns c =
     let head = next c.put_varint-length_at.ensures c.put_varint-bytes_at.ensures in
-    rw (part_length c.args.store.now c.args.self c.requires.stored) (rw add-sub_cancel_left at (then _ _ _ _ _ c.copy.ensures head))
+    rw (part_length c.args.store.now c.args.self c.requires.stored) (rw add-sub_cancel_left at (then head c.copy.ensures))
