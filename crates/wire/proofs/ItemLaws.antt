@@ -23,11 +23,7 @@ use Rattle.types.specs.declared.message.Part.{Part}
 -- ── four bytes ──
 
 four : (n : ℕ) → n < 2 ^ 32 → ((n / 2 ^ 24 % 256 * 256 + n / 2 ^ 16 % 256) * 256 + n / 2 ^ 8 % 256) * 256 + n % 256 ≡ n
-four n h =
-    let a : n / 65536 ≡ n / 256 / 256 = omega arith in
-    let b : n / 16777216 ≡ n / 256 / 256 / 256 = omega arith in
-    let c : n / 256 / 256 / 256 % 256 ≡ n / 256 / 256 / 256 = omega arith in
-    rw (a, b, c) (omega arith)
+four n h = omega arith
 
 pub read_be32_lem : (n : ℕ) (rest : List ℕ) → n < 2 ^ 32 → read_be32 (be32 n ++ rest) ≡ Some (n, rest)
 unfolding read_be32 be32

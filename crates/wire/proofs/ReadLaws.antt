@@ -6,6 +6,7 @@ use mathlib.Core.Path.{◌≡◌, refl}
 use mathlib.Core.List.{List, [], ◌∷◌, ◌++◌, append_assoc, append-nil}
 use mathlib.Core.Bool.{Bool, true, false}
 use native.Mathlib.Omega.{arith}
+use Rattle.std.proofs.lemmas.Grind.{common_steps}
 use lib.ListN.{length, length-append}
 use lib.Seq.{take-append_seam, drop-append_seam}
 use borrow.Author.Tests.{lt-ltb, le-ltb, le-leb, eq-eqb, ne_eqb}
@@ -19,54 +20,39 @@ use Rattle.wire.proofs.VarintLaws.{split, small, large}
 -- the last byte, and one before it
 pub read_last : (b : ℕ) (bs : List ℕ) → b < 128 → read_varint (b ∷ bs) ≡ Some (b, bs)
 unfolding read_varint
-read_last b bs h = rw (lt-ltb b 128 h, read_varint)
+read_last b bs h = grind (arith, common_steps)
 
 pub read_more : (b : ℕ) (bs : List ℕ) → 128 ≤ b → read_varint (b ∷ bs) ≡ with_low b (read_varint bs)
 unfolding read_varint
-read_more b bs h = rw (le-ltb b 128 h, read_varint)
+read_more b bs h = grind (arith, common_steps)
 
 read_varint_by : (n v : ℕ) (rest : List ℕ) → v ≤ n → read_varint (varint v ++ rest) ≡ Some (v, rest)
-read_varint_by zero v rest h = rw (small v (omega arith)) (read_last v rest (omega arith))
-read_varint_by (suc n) v rest h =
-    let again : 128 ≤ v → read_varint (varint (v / 128) ++ rest) ≡ Some (v / 128, rest) =
-    λ b. read_varint_by n (v / 128) rest (omega arith) in
-    let value : v % 128 + 128 - 128 + v / 128 * 128 ≡ v = omega arith in
-    split v
-    (λ b. rw (small v b) (read_last v rest b))
-    (λ b.
-    rw (large v b, read_more (v % 128 + 128) (varint (v / 128) ++ rest) (omega arith), again b)
-    (rw (ne_eqb (v / 128) 0 (λ e. omega arith), value)))
+read_varint_by zero v rest h = grind (arith, common_steps, small, read_last)
+read_varint_by (suc n) v rest h = grind (arith, common_steps, small, large, read_last, read_more, read_varint_by n (v / 128) rest)
 
 pub read_varint_lem : (v : ℕ) (rest : List ℕ) → read_varint (varint v ++ rest) ≡ Some (v, rest)
 read_varint_lem v rest = read_varint_by v v rest (omega arith)
 
 pub read_below_lem : (limit v : ℕ) (rest : List ℕ) → v < limit → read_below limit (varint v ++ rest) ≡ Some (v, rest)
 unfolding read_below
-read_below_lem limit v rest h = rw (read_varint_lem v rest, lt-ltb v limit h)
+read_below_lem limit v rest h = grind (arith, read_varint_lem)
 
 pub read_count_lem : (bs rest : List ℕ) → read_count (length bs) (bs ++ rest) ≡ Some (bs, rest)
 unfolding read_count
-read_count_lem bs rest =
-    rw (
-      le-leb (length bs) (length (bs ++ rest)) (rw length-append (omega arith)),
-      take-append_seam bs rest,
-      drop-append_seam bs rest,
-    )
+read_count_lem bs rest = grind (arith, common_steps)
 
 read_bytes_lem : (bs rest : List ℕ) → read_bytes (varint (length bs) ++ (bs ++ rest)) ≡ Some (bs, rest)
 unfolding read_bytes
-read_bytes_lem bs rest = rw (read_varint_lem (length bs) (bs ++ rest), read_count_lem bs rest)
+read_bytes_lem bs rest = grind (arith, read_varint_lem, read_count_lem)
 
 read_bool_lem : (b : Bool) (rest : List ℕ) → read_bool (varint (bool_number b) ++ rest) ≡ Some (b, rest)
-read_bool_lem true rest = rw (read_below_lem 2 1 rest (omega arith))
-read_bool_lem false rest = rw (read_below_lem 2 0 rest (omega arith))
+read_bool_lem b rest = grind (arith, read_below_lem)
 
 -- ── fields ──
 
 after_key_lem : (tag wire : ℕ) (rest : List ℕ) → after_key tag wire (key tag wire ++ rest) ≡ Some rest
 unfolding after_key key
-after_key_lem tag wire rest =
-    rw (read_varint_lem (tag * 8 + wire) rest, eq-eqb (tag * 8 + wire) (tag * 8 + wire) refl)
+after_key_lem tag wire rest = grind (arith, read_varint_lem)
 
 -- no key of a tag below t comes next
 Later : ℕ → List ℕ → Type 0
@@ -78,8 +64,7 @@ later_end t tag wire a b = refl
 
 later_key : (t tag wire : ℕ) (rest : List ℕ) → t ≤ tag → wire < 8 → Later t (key tag wire ++ rest)
 unfolding Later after_key key
-later_key t tag wire rest h w tag₂ wire₂ a b =
-    rw (read_varint_lem (tag * 8 + wire) rest, ne_eqb (tag * 8 + wire) (tag₂ * 8 + wire₂) (λ e. omega arith))
+later_key t tag wire rest h w tag₂ wire₂ a b = grind (arith, read_varint_lem)
 
 -- a field of either form, and one that may be absent
 module _ (t tag : ℕ) (rest : List ℕ) (h : t ≤ tag) where
