@@ -1,23 +1,20 @@
 -- The other direction: bytes that have a reading are exactly those that are written of what was read, so the reader takes no other
 -- layout. Each reader that answers has passed all its tests, and these leave it the writer's bytes.
 use Rattle.std.specs.Prelude.{Option, Some, None}
-use Prim.Native.Nat.{ℕ, zero, suc, ◌+◌, ◌-◌, ◌*◌, ◌/◌, ◌%◌, ◌^◌, ◌≤◌, ◌<◌}
+use Prim.Native.Nat.{ℕ, zero, suc, ◌^◌, ◌<◌}
 use mathlib.Core.Path.{◌≡◌, refl, sym, ap, ◌∙◌}
 use mathlib.Core.List.{List, [], ◌∷◌, ◌++◌, append_assoc, append-nil}
 use mathlib.Core.Bool.{Bool, true, false}
 use native.Mathlib.Omega.{arith}
 use Rattle.std.proofs.lemmas.Grind.{common_steps}
-use lib.ListN.{length, take, drop, take-append-drop}
-use lib.Seq.{length-take-le}
-use lib.Dec.{ltb, leb, eqb}
-use borrow.Author.Tests.{ltb-true, leb-true, eqb-true, eqb-false}
+use lib.ListN.{length}
+use lib.Dec.{eqb}
 use Rattle.laws.specs.Choice.{pick}
 use Rattle.wire.specs.Proto.{Byte, varint, key, varint_field, bytes_field, bool_number, bool_field, optional, be32}
 use Rattle.wire.specs.Single.{SingleMetadata, single}
 use Rattle.wire.specs.Batch.{Item, metadata, item, items, All}
-use Rattle.wire.specs.Read.{Got, bind, and_then, whole, cons?, with_low, read_varint, read_below, read_count, read_bytes, read_uint64, read_size, read_bool, after_key, read_field, present, read_optional, read_fields, read_single, read_be32, with_payload, read_item, read_items}
-use Rattle.wire.proofs.VarintLaws.{split, small, large}
-use Rattle.wire.proofs.ReadLaws.{read_last, read_more}
+use Rattle.wire.specs.Read.{Got, bind, and_then, whole, cons?, read_varint, read_below, read_count, read_bytes, read_uint64, read_size, read_bool, after_key, read_field, present, read_optional, read_fields, read_single, read_be32, with_payload, read_item, read_items}
+use Rattle.wire.proofs.VarintLaws.{small, large}
 
 -- ── how a reading came about ──
 
@@ -235,16 +232,10 @@ exact_item bs i r h e =
 pub exact_items : (n : ℕ) (bs : List ℕ) (is : List Item) → All Byte bs → read_items n bs ≡ Some is
     → (bs ≡ items is) × (length is ≡ n)
 unfolding read_items items
-exact_items zero [] is h e = (ap items (the_same e), ap length (sym (the_same e)))
-exact_items zero (b ∷ bs) is h e = not_read e
+exact_items zero [] is h e = grind (arith, common_steps)
+exact_items zero (b ∷ bs) is h e = grind (arith, common_steps)
 exact_items (suc n) bs is h e =
     then_read (read_item bs) (λ i r. cons? i (read_items n r)) is e (λ i r g t.
     let q = exact_item bs i r h g in
-    go i r q (read_items n r) t (λ js k. exact_items n r js (follows (item i) r q h) k))
-  where
-    go : (i : Item) (r : List ℕ) → bs ≡ item i ++ r → (o : Option (List Item)) → cons? i o ≡ Some is
-        → ((js : List Item) → o ≡ Some js → (r ≡ items js) × (length js ≡ n)) → (bs ≡ items is) × (length is ≡ suc n)
-    go i r q None t again = not_read t
-    go i r q (Some js) t again =
-        let a = again js refl in
-        (q ∙ ap (λ l. item i ++ l) a.0 ∙ ap items (the_same t), sym (ap length (the_same t)) ∙ ap suc a.1)
+    let f = follows (item i) r q h in
+    grind (arith, common_steps, exact_items n r))

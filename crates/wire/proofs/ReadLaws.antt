@@ -1,19 +1,17 @@
 -- What was written is read back, and then whatever follows: each reader takes exactly the bytes of its writer, and an absent
 -- field is seen by the key of a later one, or by the end.
 use Rattle.std.specs.Prelude.{Option, Some, None, unwrap_or}
-use Prim.Native.Nat.{ℕ, zero, suc, ◌+◌, ◌-◌, ◌*◌, ◌/◌, ◌%◌, ◌^◌, ◌≤◌, ◌<◌}
+use Prim.Native.Nat.{ℕ, zero, suc, ◌/◌, ◌^◌, ◌≤◌, ◌<◌}
 use mathlib.Core.Path.{◌≡◌, refl}
 use mathlib.Core.List.{List, [], ◌∷◌, ◌++◌, append_assoc, append-nil}
-use mathlib.Core.Bool.{Bool, true, false}
+use mathlib.Core.Bool.{Bool}
 use native.Mathlib.Omega.{arith}
 use Rattle.std.proofs.lemmas.Grind.{common_steps}
-use lib.ListN.{length, length-append}
-use lib.Seq.{take-append_seam, drop-append_seam}
-use borrow.Author.Tests.{lt-ltb, le-ltb, le-leb, eq-eqb, ne_eqb}
+use lib.ListN.{length}
 use Rattle.wire.specs.Proto.{varint, key, varint_field, bytes_field, bool_number, bool_field, optional}
 use Rattle.wire.specs.Single.{SingleMetadata, single}
 use Rattle.wire.specs.Read.{Got, with_low, read_varint, read_below, read_count, read_bytes, read_uint64, read_size, read_bool, after_key, read_field, read_optional, read_fields, read_single}
-use Rattle.wire.proofs.VarintLaws.{split, small, large}
+use Rattle.wire.proofs.VarintLaws.{small, large}
 
 -- ── values ──
 
@@ -70,21 +68,17 @@ later_key t tag wire rest h w tag₂ wire₂ a b = grind (arith, read_varint_lem
 module _ (t tag : ℕ) (rest : List ℕ) (h : t ≤ tag) where
   later_number : (v : ℕ) → Later t (varint_field tag v ++ rest)
   unfolding varint_field
-  later_number v = rw append_assoc (later_key t tag 0 (varint v ++ rest) h (omega arith))
+  later_number v = grind (arith, common_steps, later_key)
 
   later_maybe_number : (x : Option ℕ) → Later t rest → Later t (optional (varint_field tag) x ++ rest)
-  later_maybe_number None l = l
-  later_maybe_number (Some v) l = later_number v
+  later_maybe_number x l = grind (arith, later_number)
 
   later_maybe_bool : (x : Option Bool) → Later t rest → Later t (optional (bool_field tag) x ++ rest)
-  later_maybe_bool None l = l
-  later_maybe_bool (Some b) l = later_number (bool_number b)
+  later_maybe_bool x l = grind (arith, later_number)
 
   later_maybe_bytes : (x : Option (List ℕ)) → Later t rest → Later t (optional (bytes_field tag) x ++ rest)
   unfolding bytes_field
-  later_maybe_bytes None l = l
-  later_maybe_bytes (Some bs) l =
-      simp append_assoc (later_key t tag 2 (varint (length bs) ++ (bs ++ rest)) h (omega arith))
+  later_maybe_bytes x l = grind (arith, common_steps, later_key)
 
 module _ (tag : ℕ) (rest : List ℕ) where
   absent : {A : Type 0} (wire : ℕ) (value : List ℕ → Got A) → wire < 8 → Later (suc tag) rest
@@ -95,27 +89,21 @@ module _ (tag : ℕ) (rest : List ℕ) where
   read_maybe_bytes : (x : Option (List ℕ)) → Later (suc tag) rest
       → read_optional tag 2 read_bytes (optional (bytes_field tag) x ++ rest) ≡ Some (x, rest)
   unfolding bytes_field
-  read_maybe_bytes None l = absent 2 read_bytes (omega arith) l
-  read_maybe_bytes (Some bs) l =
-      simp append_assoc (rw (after_key_lem tag 2 (varint (length bs) ++ (bs ++ rest)), read_bytes_lem bs rest))
+  read_maybe_bytes x l = grind (arith, common_steps, absent, after_key_lem, read_bytes_lem)
 
   read_maybe_number : (limit : ℕ) (x : Option ℕ) → unwrap_or x 0 < limit → Later (suc tag) rest
       → read_optional tag 0 (read_below limit) (optional (varint_field tag) x ++ rest) ≡ Some (x, rest)
   unfolding varint_field
-  read_maybe_number limit None h l = absent 0 (read_below limit) (omega arith) l
-  read_maybe_number limit (Some v) h l =
-      rw (append_assoc, after_key_lem tag 0 (varint v ++ rest), read_below_lem limit v rest h)
+  read_maybe_number limit x h l = grind (arith, common_steps, absent, after_key_lem, read_below_lem)
 
   read_maybe_bool : (x : Option Bool) → Later (suc tag) rest
       → read_optional tag 0 read_bool (optional (bool_field tag) x ++ rest) ≡ Some (x, rest)
   unfolding varint_field
-  read_maybe_bool None l = absent 0 read_bool (omega arith) l
-  read_maybe_bool (Some b) l =
-      rw (append_assoc, after_key_lem tag 0 (varint (bool_number b) ++ rest), read_bool_lem b rest)
+  read_maybe_bool x l = grind (arith, common_steps, absent, after_key_lem, read_bool_lem)
 
   read_number : (limit v : ℕ) → v < limit → read_field tag 0 (read_below limit) (varint_field tag v ++ rest) ≡ Some (v, rest)
   unfolding varint_field
-  read_number limit v h = rw (append_assoc, after_key_lem tag 0 (varint v ++ rest), read_below_lem limit v rest h)
+  read_number limit v h = grind (arith, common_steps, after_key_lem, read_below_lem)
 
 -- ── single metadata ──
 

@@ -1,22 +1,16 @@
 -- A uuid's text is 36 characters and is read back: byte by byte, with the dash that stands before it.
-use Rattle.std.specs.Prelude.{Option, Some, None}
-use Prim.Native.Nat.{ℕ, zero, suc, ◌+◌, ◌-◌, ◌*◌, ◌/◌, ◌%◌, ◌≤◌, ◌<◌}
+use Rattle.std.specs.Prelude.{Some}
+use Prim.Native.Nat.{ℕ, zero, suc, ◌+◌, ◌<◌}
 use mathlib.Core.Path.{◌≡◌, refl, sym, ap, ◌∙◌}
-use mathlib.Core.List.{List, [], ◌∷◌, ◌++◌, append_assoc}
-use mathlib.Core.Bool.{Bool, true, false, ◌&&◌}
+use mathlib.Core.List.{List, [], ◌∷◌, ◌++◌}
 use native.Mathlib.Omega.{arith}
 use Rattle.std.proofs.lemmas.Grind.{common_steps}
-use native.Mathlib.Numerals.{add-one}
-use lib.ListN.{length, drop, get_or, length-append}
+use lib.ListN.{length, drop, get_or}
 use lib.Seq.{drop-cons}
-use lib.Dec.{ltb, leb, eqb}
-use borrow.Author.Tests.{lt-ltb, le-ltb, le-leb, lt-leb, ltb-true, ltb-false, leb-true, eqb-true}
-use Rattle.laws.specs.Choice.{pick}
 use Rattle.wire.specs.Batch.{All}
 use Rattle.wire.specs.Proto.{Byte}
-use Rattle.wire.specs.Read.{cons?}
-use Rattle.wire.specs.Uuid.{two_digits, hex_digit, hex_byte, hex_text, dashed, dash, text_from, uuid_text, read_digit, read_hex, read_dash, take_dash, read_text, read_uuid}
-use Rattle.wire.proofs.ReadExact.{not_read, the_same, parts, chosen, then_read, then_bind}
+use Rattle.wire.specs.Uuid.{hex_digit, hex_byte, hex_text, dash, text_from, uuid_text, read_digit, read_hex, read_dash, read_text, read_uuid}
+use Rattle.wire.proofs.ReadExact.{then_read, then_bind}
 
 -- one byte more
 pub text_step : (uuid : List ℕ) (i : ℕ) → i < length uuid
@@ -32,7 +26,7 @@ characters (suc n) i = length (dash i) + (2 + characters n (suc i))
 text_characters : (bs : List ℕ) (i : ℕ) → length (text_from i bs) ≡ characters (length bs) i
 unfolding text_from
 text_characters [] i = refl
-text_characters (b ∷ bs) i = simp length-append (rw (text_characters bs (suc i)) (omega arith))
+text_characters (b ∷ bs) i = grind (arith, common_steps, text_characters bs (suc i))
 
 pub text_length : (uuid : List ℕ) → length uuid ≡ 16 → length (text_from 0 uuid) ≡ 36
 text_length uuid h = text_characters uuid 0 ∙ ap (λ n. characters n 0) h
@@ -44,7 +38,7 @@ elements (suc n) l = get_or l 0 0 ∷ elements n (drop 1 l)
 
 all_elements : (l : List ℕ) → elements (length l) l ≡ l
 all_elements [] = refl
-all_elements (x ∷ l) = ap (λ m. x ∷ m) (all_elements l)
+all_elements (x ∷ l) = grind (arith, all_elements l)
 
 -- the text in groups is the text byte by byte: both are computed from 16 elements
 pub by_bytes : (uuid : List ℕ) → length uuid ≡ 16 → uuid_text uuid ≡ text_from 0 uuid
@@ -67,13 +61,11 @@ read_dash_lem i rest = grind (arith, common_steps)
 read_text_lem : (bs : List ℕ) (i : ℕ) → All Byte bs → read_text (length bs) i (text_from i bs) ≡ Some bs
 unfolding read_text text_from
 read_text_lem [] i a = refl
-read_text_lem (b ∷ bs) i a =
-    let rest = text_from (suc i) bs in
-    rw (append_assoc (dash i) (hex_byte b) rest, read_dash_lem i (hex_byte b ++ rest), read_hex_lem b rest a.0, read_text_lem bs (suc i) a.1)
+read_text_lem (b ∷ bs) i a = grind (arith, common_steps, read_dash_lem, read_hex_lem, read_text_lem bs (suc i))
 
 pub read_uuid_lem : (uuid : List ℕ) → length uuid ≡ 16 → All Byte uuid → read_uuid (uuid_text uuid) ≡ Some uuid
 unfolding read_uuid
-read_uuid_lem uuid h a = rw (by_bytes uuid h, ← h) (read_text_lem uuid 0 a)
+read_uuid_lem uuid h a = grind (arith, by_bytes, read_text_lem)
 
 -- ── and a text that has a reading is the text of what was read ──
 
@@ -88,23 +80,14 @@ exact_dash i cs r e = grind (arith, common_steps)
 
 exact_text : (n i : ℕ) (cs bs : List ℕ) → read_text n i cs ≡ Some bs → (cs ≡ text_from i bs) × (length bs ≡ n)
 unfolding read_text text_from
-exact_text zero i [] bs e = (ap (text_from i) (the_same e), ap length (sym (the_same e)))
-exact_text zero i (c ∷ cs) bs e = not_read e
+exact_text zero i [] bs e = grind (arith, common_steps)
+exact_text zero i (c ∷ cs) bs e = grind (arith, common_steps)
 exact_text (suc n) i cs bs e =
     then_bind (read_dash i cs) _ bs e (λ r g t.
     then_read (read_hex r) _ bs t (λ b rest h u.
-    let q = exact_dash i cs r g ∙ ap (λ l. dash i ++ l) (exact_hex r b rest h) in
-    go b rest q (read_text n (suc i) rest) u (λ ts k. exact_text n (suc i) rest ts k)))
-  where
-    go : (b : ℕ) (rest : List ℕ) → cs ≡ dash i ++ (hex_byte b ++ rest) → (o : Option (List ℕ)) → cons? b o ≡ Some bs
-        → ((ts : List ℕ) → o ≡ Some ts → (rest ≡ text_from (suc i) ts) × (length ts ≡ n))
-        → (cs ≡ text_from i bs) × (length bs ≡ suc n)
-    go b rest q None t again = not_read t
-    go b rest q (Some ts) t again =
-        let a = again ts refl in
-        let text : cs ≡ dash i ++ hex_byte b ++ text_from (suc i) ts =
-        (rw a.0 at q) ∙ sym (append_assoc (dash i) (hex_byte b) (text_from (suc i) ts)) in
-        (text ∙ ap (text_from i) (the_same t), sym (ap length (the_same t)) ∙ ap suc a.1)
+    let d = exact_dash i cs r g in
+    let x = exact_hex r b rest h in
+    grind (arith, common_steps, exact_text n (suc i) rest)))
 
 pub exact_uuid : (text uuid : List ℕ) → read_uuid text ≡ Some uuid → (text ≡ uuid_text uuid) × (length uuid ≡ 16)
 unfolding read_uuid
