@@ -1,13 +1,12 @@
 -- The items of a batch are read back: a bounded item's single metadata is short enough for four bytes to say its length.
-use Rattle.std.specs.Prelude.{None, Option, Some, unwrap_or}
+use Rattle.std.specs.Prelude.{Option, Some, unwrap_or}
 use Prim.Native.Nat.{ℕ, zero, suc, ◌+◌, ◌*◌, ◌/◌, ◌%◌, ◌^◌, ◌≤◌, ◌<◌}
-use mathlib.Core.Path.{◌≡◌, refl, sym}
+use mathlib.Core.Path.{◌≡◌, refl}
 use mathlib.Core.List.{List, [], ◌∷◌, ◌++◌, append_assoc, map}
-use mathlib.Core.Bool.{Bool, true, false}
+use mathlib.Core.Bool.{Bool}
 use native.Mathlib.Omega.{arith}
-use native.Mathlib.Nat.{not-suc-le-zero, le_of_suc-le-suc}
-use native.Mathlib.Numerals.{add-one}
-use lib.ListN.{length, drop, get_or, length-append, length-take, length-map, length-replicate}
+use Rattle.std.proofs.lemmas.Grind.{common_steps}
+use lib.ListN.{length, drop, get_or, length-append, length-take, length-map}
 use lib.Seq.{drop-cons}
 use Rattle.types.specs.Values.{bytes_of}
 use Rattle.types.specs.declared.message.SingleMessage.{SingleMessage}
@@ -23,37 +22,28 @@ use Rattle.types.specs.declared.message.Part.{Part}
 -- ── four bytes ──
 
 four : (n : ℕ) → n < 2 ^ 32 → ((n / 2 ^ 24 % 256 * 256 + n / 2 ^ 16 % 256) * 256 + n / 2 ^ 8 % 256) * 256 + n % 256 ≡ n
-four n h =
-    let a : n / 65536 ≡ n / 256 / 256 = omega arith in
-    let b : n / 16777216 ≡ n / 256 / 256 / 256 = omega arith in
-    let c : n / 256 / 256 / 256 % 256 ≡ n / 256 / 256 / 256 = omega arith in
-    rw (a, b, c) (omega arith)
+four n h = omega arith
 
 pub read_be32_lem : (n : ℕ) (rest : List ℕ) → n < 2 ^ 32 → read_be32 (be32 n ++ rest) ≡ Some (n, rest)
 unfolding read_be32 be32
-read_be32_lem n rest h = rw (four n h)
+read_be32_lem n rest h = grind (arith, four)
 
 -- ── how long a single metadata can be ──
 
 module _ (tag : ℕ) (t : tag < 16) where
   number_short : (v : ℕ) → v < 2 ^ 64 → length (varint_field tag v) ≤ 11
   unfolding varint_field key
-  number_short v h = simp length-append (omega (arith, short 0 (tag * 8 + 0) (omega arith), at_most_ten v h))
+  number_short v h = grind (arith, common_steps, short 0 (tag * 8 + 0), at_most_ten)
 
   maybe_number_short : (x : Option ℕ) → unwrap_or x 0 < 2 ^ 64 → length (optional (varint_field tag) x) ≤ 11
-  maybe_number_short None h = omega arith
-  maybe_number_short (Some v) h = number_short v h
+  maybe_number_short x h = grind (arith, common_steps, number_short)
 
   maybe_bool_short : (x : Option Bool) → length (optional (bool_field tag) x) ≤ 11
-  maybe_bool_short None = omega arith
-  maybe_bool_short (Some true) = number_short 1 (omega arith)
-  maybe_bool_short (Some false) = number_short 0 (omega arith)
+  maybe_bool_short x = grind (arith, common_steps, number_short)
 
   maybe_bytes_short : (x : Option (List ℕ)) → length (unwrap_or x []) ≤ 1024 → length (optional (bytes_field tag) x) ≤ 1035
   unfolding bytes_field key
-  maybe_bytes_short None h = omega arith
-  maybe_bytes_short (Some bs) h =
-      simp length-append (omega (arith, short 0 (tag * 8 + 2) (omega arith), at_most_ten (length bs) (omega arith)))
+  maybe_bytes_short x h = grind (arith, common_steps, short 0 (tag * 8 + 2), at_most_ten)
 
 pub single_short : (m : SingleMetadata) → length (unwrap_or m.partition_key []) ≤ 1024 → m.payload_size < 2 ^ 64
     → unwrap_or m.event_time 0 < 2 ^ 64 → length (unwrap_or m.ordering_key []) ≤ 1024 → length (single m) ≤ 2114
@@ -92,18 +82,17 @@ read_item_lem i rest b =
 pub read_items_lem : (is : List Item) → All Bounded is → read_items (length is) (items is) ≡ Some is
 unfolding read_items items
 read_items_lem [] b = refl
-read_items_lem (i ∷ is) b = rw (read_item_lem i (items is) b.0, read_items_lem is b.1)
+read_items_lem (i ∷ is) b = grind (arith, read_item_lem, read_items_lem is)
 
 pub items_append : (a b : List Item) → items (a ++ b) ≡ items a ++ items b
 unfolding items
 items_append [] b = refl
-items_append (i ∷ a) b = rw (items_append a b) (sym (append_assoc (item i) (items a) (items b)))
+items_append (i ∷ a) b = grind (arith, common_steps, items_append a b)
 
 -- ── over a store ──
 
 part_short : (store : List ℕ) (x : Option Part) → len_of x ≤ 1024 → length (unwrap_or (bytes_of store x) []) ≤ 1024
-part_short store None h = omega arith
-part_short store (Some p) h = rw length-take (omega arith)
+part_short store x h = grind (arith, common_steps)
 
 pub bounded : (store : List ℕ) (m : SingleMessage) → WithinBounds m → Bounded (item_of store m)
 bounded store m h =
@@ -127,27 +116,23 @@ read_batch store ms h =
 
 -- what holds of each message holds of the i-th
 pub all_at : {A : Type 0} (P : A → Type 0) (xs : List A) (i : ℕ) (d : A) → All P xs → i < length xs → P (get_or xs i d)
-all_at P [] i d h l = absurd (not-suc-le-zero l)
+all_at P [] i d h l = absurd (omega arith)
 all_at P (x ∷ xs) zero d h l = h.0
-all_at P (x ∷ xs) (suc i) d h l = all_at P xs i d h.1 (le_of_suc-le-suc l)
+all_at P (x ∷ xs) (suc i) d h l = all_at P xs i d h.1 (omega arith)
 
 -- one message more
 pub batch_step : (store : List ℕ) (ms : List SingleMessage) (i : ℕ) (d : SingleMessage) → i < length ms
     → batch_payload store (drop i ms) ≡ item (item_of store (get_or ms i d)) ++ batch_payload store (drop (i + 1) ms)
 unfolding items
-batch_step store ms i d h = rw (drop-cons ms i d h, add-one)
+batch_step store ms i d h = grind (arith, common_steps, drop-cons)
 
 -- ── how long an item can be: the sums of a batch of 512 never stop ──
 
 zeros_short : (x : Option Part) → len_of x ≤ 1024 → length (unwrap_or (zeros x) []) ≤ 1024
-zeros_short None h = omega arith
-zeros_short (Some p) h = rw length-replicate h
+zeros_short x h = grind (arith, common_steps)
 
 pub item_short : (m : SingleMessage) → WithinBounds m → item_length m ≤ 16779334
 unfolding item_length single_length
 item_short m h =
     let p = h.payload in
-    let size : m.payload.len < 2 ^ 64 = omega arith in
-    let partition = zeros_short m.partition_key h.partition_key in
-    let ordering = zeros_short m.ordering_key h.ordering_key in
-    omega (arith, single_short (blank_metadata m) partition size h.event_time ordering)
+    grind (arith, zeros_short, single_short (blank_metadata m))

@@ -1,22 +1,20 @@
 -- The other direction: bytes that have a reading are exactly those that are written of what was read, so the reader takes no other
 -- layout. Each reader that answers has passed all its tests, and these leave it the writer's bytes.
 use Rattle.std.specs.Prelude.{Option, Some, None}
-use Prim.Native.Nat.{ℕ, zero, suc, ◌+◌, ◌-◌, ◌*◌, ◌/◌, ◌%◌, ◌^◌, ◌≤◌, ◌<◌}
+use Prim.Native.Nat.{ℕ, zero, suc, ◌^◌, ◌<◌}
 use mathlib.Core.Path.{◌≡◌, refl, sym, ap, ◌∙◌}
 use mathlib.Core.List.{List, [], ◌∷◌, ◌++◌, append_assoc, append-nil}
 use mathlib.Core.Bool.{Bool, true, false}
 use native.Mathlib.Omega.{arith}
-use lib.ListN.{length, take, drop, take-append-drop}
-use lib.Seq.{length-take-le}
-use lib.Dec.{ltb, leb, eqb}
-use borrow.Author.Tests.{ltb-true, leb-true, eqb-true, eqb-false}
+use Rattle.std.proofs.lemmas.Grind.{common_steps}
+use lib.ListN.{length}
+use lib.Dec.{eqb}
 use Rattle.laws.specs.Choice.{pick}
 use Rattle.wire.specs.Proto.{Byte, varint, key, varint_field, bytes_field, bool_number, bool_field, optional, be32}
 use Rattle.wire.specs.Single.{SingleMetadata, single}
 use Rattle.wire.specs.Batch.{Item, metadata, item, items, All}
-use Rattle.wire.specs.Read.{Got, bind, and_then, whole, cons?, with_low, read_varint, read_below, read_count, read_bytes, read_uint64, read_size, read_bool, after_key, read_field, present, read_optional, read_fields, read_single, read_be32, with_payload, read_item, read_items}
-use Rattle.wire.proofs.VarintLaws.{split, small, large}
-use Rattle.wire.proofs.ReadLaws.{read_last, read_more}
+use Rattle.wire.specs.Read.{Got, bind, and_then, whole, cons?, read_varint, read_below, read_count, read_bytes, read_uint64, read_size, read_bool, after_key, read_field, present, read_optional, read_fields, read_single, read_be32, with_payload, read_item, read_items}
+use Rattle.wire.proofs.VarintLaws.{small, large}
 
 -- ── how a reading came about ──
 
@@ -45,7 +43,7 @@ chosen false x y e = not_read e
 
 all_left : (a b : List ℕ) → All Byte (a ++ b) → All Byte a
 all_left [] b h = tt
-all_left (x ∷ a) b h = (h.0, all_left a b h.1)
+all_left (x ∷ a) b h = grind (arith, all_left a b)
 
 all_right : (a b : List ℕ) → All Byte (a ++ b) → All Byte b
 all_right [] b h = h
@@ -57,83 +55,38 @@ follows a r e h = all_right a r (rw e at h)
 
 -- ── values ──
 
-exact_low : (b v : ℕ) (r bs : List ℕ) (g : Got ℕ) → 128 ≤ b → b < 256 → with_low b g ≡ Some (v, r)
-    → ((w : ℕ) (s : List ℕ) → g ≡ Some (w, s) → bs ≡ varint w ++ s) → b ∷ bs ≡ varint v ++ r
-exact_low b v r bs None h l e again = not_read e
-exact_low b v r bs (Some p) h l e again = go (eqb p.0 0) refl e
-  where
-    go : (t : Bool) → eqb p.0 0 ≡ t → pick {A = Got ℕ} t None (Some (b - 128 + p.0 * 128, p.1)) ≡ Some (v, r)
-        → b ∷ bs ≡ varint v ++ r
-    go true z e = not_read e
-    go false z e =
-        let w = p.0 in
-        let n : w ≡ 0 → ⊥ = eqb-false w 0 z in
-        let q = parts (the_same e) in
-        let value : b - 128 + w * 128 ≡ v = q.0 in
-        let rest : p.1 ≡ r = q.1 in
-        let low : v % 128 + 128 ≡ b = omega arith in
-        let high : v / 128 ≡ w = omega arith in
-        rw (large v (omega arith), low, high, ← rest) (ap (λ l. b ∷ l) (again w p.1 refl))
-
 exact_varint : (bs : List ℕ) (v : ℕ) (r : List ℕ) → All Byte bs → read_varint bs ≡ Some (v, r) → bs ≡ varint v ++ r
 unfolding read_varint
-exact_varint [] v r h e = not_read e
-exact_varint (b ∷ bs) v r h e =
-    split b
-    (λ l. let q = parts (the_same (sym (read_last b bs l) ∙ e)) in rw (← q.0, ← q.1, small b l))
-    (λ l. exact_low b v r bs (read_varint bs) l h.0 (sym (read_more b bs l) ∙ e) (λ w s q. exact_varint bs w s h.1 q))
-
-joined : (v w : ℕ) (r s : List ℕ) → v ≡ w → r ≡ s → varint v ++ r ≡ varint w ++ s
-joined v w r s e f = cc
+exact_varint [] v r h e = grind (arith, common_steps)
+exact_varint (b ∷ bs) v r h e = grind (arith, common_steps, small, large, exact_varint bs)
 
 exact_below : (limit : ℕ) (bs : List ℕ) (v : ℕ) (r : List ℕ) → All Byte bs → read_below limit bs ≡ Some (v, r)
     → (bs ≡ varint v ++ r) × (v < limit)
 unfolding read_below
-exact_below limit bs v r h e =
-    let c = came (read_varint bs) (λ v r. pick (ltb v limit) (Some (v, r)) None) (v, r) e in
-    let t = chosen (ltb c.value limit) (c.value, c.rest) (v, r) c.then in
-    let q = parts t.1 in
-    let below : c.value < limit = ltb-true c.value limit t.0 in
-    (exact_varint bs v r h (c.first ∙ ap Some t.1), rw q.0 at below)
+exact_below limit bs v r h e = grind (arith, common_steps, exact_varint)
 
 exact_count : (n : ℕ) (bs x r : List ℕ) → read_count n bs ≡ Some (x, r) → (bs ≡ x ++ r) × (length x ≡ n)
 unfolding read_count
-exact_count n bs x r e =
-    let t = chosen (leb n (length bs)) (take n bs, drop n bs) (x, r) e in
-    let q = parts t.1 in (
-      rw (← q.0, ← q.1) (sym (take-append-drop n bs)),
-      rw (← q.0) (length-take-le n bs (leb-true n (length bs) t.0)),
-    )
+exact_count n bs x r e = grind (arith, common_steps)
 
 exact_bytes : (bs x r : List ℕ) → All Byte bs → read_bytes bs ≡ Some (x, r) → bs ≡ varint (length x) ++ (x ++ r)
 unfolding read_bytes
-exact_bytes bs x r h e =
-    let c = came (read_varint bs) read_count (x, r) e in
-    let q = exact_count c.value c.rest x r c.then in
-    rw (q.1, ← q.0) (exact_varint bs c.value c.rest h c.first)
+exact_bytes bs x r h e = grind (arith, common_steps, exact_varint, exact_count)
 
 number_bool : (v : ℕ) → v < 2 → bool_number (eqb v 1) ≡ v
-number_bool zero h = refl
-number_bool (suc zero) h = refl
-number_bool (suc (suc v)) h = absurd (omega arith)
+number_bool v h = grind (arith, common_steps)
 
 exact_bool : (bs : List ℕ) (b : Bool) (r : List ℕ) → All Byte bs → read_bool bs ≡ Some (b, r) → bs ≡ varint (bool_number b) ++ r
 exact_bool bs b r h e =
     let c = came (read_below 2 bs) (λ v r. Some (eqb v 1, r)) (b, r) e in
-    let q = parts (the_same c.then) in
     let v = exact_below 2 bs c.value c.rest h c.first in
-    v.0
-    ∙ joined c.value (bool_number b) c.rest r (sym (number_bool c.value v.1) ∙ ap bool_number q.0) q.1
+    grind (arith, number_bool c.value v.1, c.then, v.0)
 
 -- ── fields ──
 
 exact_key : (tag wire : ℕ) (bs r : List ℕ) → All Byte bs → after_key tag wire bs ≡ Some r → bs ≡ key tag wire ++ r
 unfolding after_key key
-exact_key tag wire bs r h e =
-    let c = came (read_varint bs) (λ k r. pick (eqb k (tag * 8 + wire)) (Some r) None) r e in
-    let t = chosen (eqb c.value (tag * 8 + wire)) c.rest r c.then in
-    exact_varint bs c.value c.rest h c.first
-    ∙ joined c.value (tag * 8 + wire) c.rest r (eqb-true c.value (tag * 8 + wire) t.0) t.1
+exact_key tag wire bs r h e = grind (arith, common_steps, exact_varint)
 
 module _ {A : Type 0} (tag wire : ℕ) (value : List ℕ → Got A) (field : A → List ℕ)
     (exact : (bs : List ℕ) (x : A) (r : List ℕ) → All Byte bs → value bs ≡ Some (x, r) → key tag wire ++ bs ≡ field x ++ r)
@@ -163,19 +116,17 @@ module _ {A : Type 0} (tag wire : ℕ) (value : List ℕ → Got A) (field : A �
 exact_number : (limit tag : ℕ) (bs : List ℕ) (v : ℕ) (r : List ℕ) → All Byte bs → read_below limit bs ≡ Some (v, r)
     → key tag 0 ++ bs ≡ varint_field tag v ++ r
 unfolding varint_field
-exact_number limit tag bs v r h e =
-    ap (λ l. key tag 0 ++ l) (exact_below limit bs v r h e).0 ∙ sym (append_assoc (key tag 0) (varint v) r)
+exact_number limit tag bs v r h e = grind (arith, common_steps, exact_below)
 
 exact_mark : (tag : ℕ) (bs : List ℕ) (b : Bool) (r : List ℕ) → All Byte bs → read_bool bs ≡ Some (b, r)
     → key tag 0 ++ bs ≡ bool_field tag b ++ r
 unfolding varint_field
-exact_mark tag bs b r h e =
-    ap (λ l. key tag 0 ++ l) (exact_bool bs b r h e) ∙ sym (append_assoc (key tag 0) (varint (bool_number b)) r)
+exact_mark tag bs b r h e = grind (arith, common_steps, exact_bool)
 
 exact_part : (tag : ℕ) (bs x r : List ℕ) → All Byte bs → read_bytes bs ≡ Some (x, r)
     → key tag 2 ++ bs ≡ bytes_field tag x ++ r
 unfolding bytes_field
-exact_part tag bs x r h e = ap (λ l. key tag 2 ++ l) (exact_bytes bs x r h e) ∙ simp append_assoc
+exact_part tag bs x r h e = grind (arith, common_steps, exact_bytes)
 
 -- a field read, and what follows it
 module _ {A B P : Type 0} (tag wire : ℕ) (value : List ℕ → Got A) (field : A → List ℕ)
@@ -231,22 +182,7 @@ exact_single bs m h e = go (read_fields bs) refl e
 
 exact_be32 : (bs : List ℕ) (n : ℕ) (r : List ℕ) → All Byte bs → read_be32 bs ≡ Some (n, r) → bs ≡ be32 n ++ r
 unfolding read_be32 be32
-exact_be32 [] n r h e = not_read e
-exact_be32 (a ∷ []) n r h e = not_read e
-exact_be32 (a ∷ b ∷ []) n r h e = not_read e
-exact_be32 (a ∷ b ∷ c ∷ []) n r h e = not_read e
-exact_be32 (a ∷ b ∷ c ∷ d ∷ s) n r h e =
-    let q = parts (the_same e) in
-    let i = h.0 in
-    let j = h.1.0 in
-    let k = h.1.1.0 in
-    let l = h.1.1.1.0 in
-    let value : ((a * 256 + b) * 256 + c) * 256 + d ≡ n = q.0 in
-    let a₁ : n / 16777216 % 256 ≡ a = omega arith in
-    let b₁ : n / 65536 % 256 ≡ b = omega arith in
-    let c₁ : n / 256 % 256 ≡ c = omega arith in
-    let d₁ : n % 256 ≡ d = omega arith in
-    rw (a₁, b₁, c₁, d₁, q.1)
+exact_be32 bs n r h e = grind (arith, common_steps)
 
 pub then_read : {A B P : Type 0} (g : Got A) (f : A → List ℕ → Option B) (y : B) → and_then g f ≡ Some y
     → ((x : A) (r : List ℕ) → g ≡ Some (x, r) → f x r ≡ Some y → P) → P
@@ -296,16 +232,10 @@ exact_item bs i r h e =
 pub exact_items : (n : ℕ) (bs : List ℕ) (is : List Item) → All Byte bs → read_items n bs ≡ Some is
     → (bs ≡ items is) × (length is ≡ n)
 unfolding read_items items
-exact_items zero [] is h e = (ap items (the_same e), ap length (sym (the_same e)))
-exact_items zero (b ∷ bs) is h e = not_read e
+exact_items zero [] is h e = grind (arith, common_steps)
+exact_items zero (b ∷ bs) is h e = grind (arith, common_steps)
 exact_items (suc n) bs is h e =
     then_read (read_item bs) (λ i r. cons? i (read_items n r)) is e (λ i r g t.
     let q = exact_item bs i r h g in
-    go i r q (read_items n r) t (λ js k. exact_items n r js (follows (item i) r q h) k))
-  where
-    go : (i : Item) (r : List ℕ) → bs ≡ item i ++ r → (o : Option (List Item)) → cons? i o ≡ Some is
-        → ((js : List Item) → o ≡ Some js → (r ≡ items js) × (length js ≡ n)) → (bs ≡ items is) × (length is ≡ suc n)
-    go i r q None t again = not_read t
-    go i r q (Some js) t again =
-        let a = again js refl in
-        (q ∙ ap (λ l. item i ++ l) a.0 ∙ ap items (the_same t), sym (ap length (the_same t)) ∙ ap suc a.1)
+    let f = follows (item i) r q h in
+    grind (arith, common_steps, exact_items n r))

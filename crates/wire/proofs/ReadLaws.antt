@@ -1,72 +1,56 @@
 -- What was written is read back, and then whatever follows: each reader takes exactly the bytes of its writer, and an absent
 -- field is seen by the key of a later one, or by the end.
 use Rattle.std.specs.Prelude.{Option, Some, None, unwrap_or}
-use Prim.Native.Nat.{ℕ, zero, suc, ◌+◌, ◌-◌, ◌*◌, ◌/◌, ◌%◌, ◌^◌, ◌≤◌, ◌<◌}
+use Prim.Native.Nat.{ℕ, zero, suc, ◌/◌, ◌^◌, ◌≤◌, ◌<◌}
 use mathlib.Core.Path.{◌≡◌, refl}
 use mathlib.Core.List.{List, [], ◌∷◌, ◌++◌, append_assoc, append-nil}
-use mathlib.Core.Bool.{Bool, true, false}
+use mathlib.Core.Bool.{Bool}
 use native.Mathlib.Omega.{arith}
-use lib.ListN.{length, length-append}
-use lib.Seq.{take-append_seam, drop-append_seam}
-use borrow.Author.Tests.{lt-ltb, le-ltb, le-leb, eq-eqb, ne_eqb}
+use Rattle.std.proofs.lemmas.Grind.{common_steps}
+use lib.ListN.{length}
 use Rattle.wire.specs.Proto.{varint, key, varint_field, bytes_field, bool_number, bool_field, optional}
 use Rattle.wire.specs.Single.{SingleMetadata, single}
 use Rattle.wire.specs.Read.{Got, with_low, read_varint, read_below, read_count, read_bytes, read_uint64, read_size, read_bool, after_key, read_field, read_optional, read_fields, read_single}
-use Rattle.wire.proofs.VarintLaws.{split, small, large}
+use Rattle.wire.proofs.VarintLaws.{small, large}
 
 -- ── values ──
 
 -- the last byte, and one before it
 pub read_last : (b : ℕ) (bs : List ℕ) → b < 128 → read_varint (b ∷ bs) ≡ Some (b, bs)
 unfolding read_varint
-read_last b bs h = rw (lt-ltb b 128 h, read_varint)
+read_last b bs h = grind (arith, common_steps)
 
 pub read_more : (b : ℕ) (bs : List ℕ) → 128 ≤ b → read_varint (b ∷ bs) ≡ with_low b (read_varint bs)
 unfolding read_varint
-read_more b bs h = rw (le-ltb b 128 h, read_varint)
+read_more b bs h = grind (arith, common_steps)
 
 read_varint_by : (n v : ℕ) (rest : List ℕ) → v ≤ n → read_varint (varint v ++ rest) ≡ Some (v, rest)
-read_varint_by zero v rest h = rw (small v (omega arith)) (read_last v rest (omega arith))
-read_varint_by (suc n) v rest h =
-    let again : 128 ≤ v → read_varint (varint (v / 128) ++ rest) ≡ Some (v / 128, rest) =
-    λ b. read_varint_by n (v / 128) rest (omega arith) in
-    let value : v % 128 + 128 - 128 + v / 128 * 128 ≡ v = omega arith in
-    split v
-    (λ b. rw (small v b) (read_last v rest b))
-    (λ b.
-    rw (large v b, read_more (v % 128 + 128) (varint (v / 128) ++ rest) (omega arith), again b)
-    (rw (ne_eqb (v / 128) 0 (λ e. omega arith), value)))
+read_varint_by zero v rest h = grind (arith, common_steps, small, read_last)
+read_varint_by (suc n) v rest h = grind (arith, common_steps, small, large, read_last, read_more, read_varint_by n (v / 128) rest)
 
 pub read_varint_lem : (v : ℕ) (rest : List ℕ) → read_varint (varint v ++ rest) ≡ Some (v, rest)
 read_varint_lem v rest = read_varint_by v v rest (omega arith)
 
 pub read_below_lem : (limit v : ℕ) (rest : List ℕ) → v < limit → read_below limit (varint v ++ rest) ≡ Some (v, rest)
 unfolding read_below
-read_below_lem limit v rest h = rw (read_varint_lem v rest, lt-ltb v limit h)
+read_below_lem limit v rest h = grind (arith, read_varint_lem)
 
 pub read_count_lem : (bs rest : List ℕ) → read_count (length bs) (bs ++ rest) ≡ Some (bs, rest)
 unfolding read_count
-read_count_lem bs rest =
-    rw (
-      le-leb (length bs) (length (bs ++ rest)) (rw length-append (omega arith)),
-      take-append_seam bs rest,
-      drop-append_seam bs rest,
-    )
+read_count_lem bs rest = grind (arith, common_steps)
 
 read_bytes_lem : (bs rest : List ℕ) → read_bytes (varint (length bs) ++ (bs ++ rest)) ≡ Some (bs, rest)
 unfolding read_bytes
-read_bytes_lem bs rest = rw (read_varint_lem (length bs) (bs ++ rest), read_count_lem bs rest)
+read_bytes_lem bs rest = grind (arith, read_varint_lem, read_count_lem)
 
 read_bool_lem : (b : Bool) (rest : List ℕ) → read_bool (varint (bool_number b) ++ rest) ≡ Some (b, rest)
-read_bool_lem true rest = rw (read_below_lem 2 1 rest (omega arith))
-read_bool_lem false rest = rw (read_below_lem 2 0 rest (omega arith))
+read_bool_lem b rest = grind (arith, read_below_lem)
 
 -- ── fields ──
 
 after_key_lem : (tag wire : ℕ) (rest : List ℕ) → after_key tag wire (key tag wire ++ rest) ≡ Some rest
 unfolding after_key key
-after_key_lem tag wire rest =
-    rw (read_varint_lem (tag * 8 + wire) rest, eq-eqb (tag * 8 + wire) (tag * 8 + wire) refl)
+after_key_lem tag wire rest = grind (arith, read_varint_lem)
 
 -- no key of a tag below t comes next
 Later : ℕ → List ℕ → Type 0
@@ -78,28 +62,23 @@ later_end t tag wire a b = refl
 
 later_key : (t tag wire : ℕ) (rest : List ℕ) → t ≤ tag → wire < 8 → Later t (key tag wire ++ rest)
 unfolding Later after_key key
-later_key t tag wire rest h w tag₂ wire₂ a b =
-    rw (read_varint_lem (tag * 8 + wire) rest, ne_eqb (tag * 8 + wire) (tag₂ * 8 + wire₂) (λ e. omega arith))
+later_key t tag wire rest h w tag₂ wire₂ a b = grind (arith, read_varint_lem)
 
 -- a field of either form, and one that may be absent
 module _ (t tag : ℕ) (rest : List ℕ) (h : t ≤ tag) where
   later_number : (v : ℕ) → Later t (varint_field tag v ++ rest)
   unfolding varint_field
-  later_number v = rw append_assoc (later_key t tag 0 (varint v ++ rest) h (omega arith))
+  later_number v = grind (arith, common_steps, later_key)
 
   later_maybe_number : (x : Option ℕ) → Later t rest → Later t (optional (varint_field tag) x ++ rest)
-  later_maybe_number None l = l
-  later_maybe_number (Some v) l = later_number v
+  later_maybe_number x l = grind (arith, later_number)
 
   later_maybe_bool : (x : Option Bool) → Later t rest → Later t (optional (bool_field tag) x ++ rest)
-  later_maybe_bool None l = l
-  later_maybe_bool (Some b) l = later_number (bool_number b)
+  later_maybe_bool x l = grind (arith, later_number)
 
   later_maybe_bytes : (x : Option (List ℕ)) → Later t rest → Later t (optional (bytes_field tag) x ++ rest)
   unfolding bytes_field
-  later_maybe_bytes None l = l
-  later_maybe_bytes (Some bs) l =
-      simp append_assoc (later_key t tag 2 (varint (length bs) ++ (bs ++ rest)) h (omega arith))
+  later_maybe_bytes x l = grind (arith, common_steps, later_key)
 
 module _ (tag : ℕ) (rest : List ℕ) where
   absent : {A : Type 0} (wire : ℕ) (value : List ℕ → Got A) → wire < 8 → Later (suc tag) rest
@@ -110,27 +89,21 @@ module _ (tag : ℕ) (rest : List ℕ) where
   read_maybe_bytes : (x : Option (List ℕ)) → Later (suc tag) rest
       → read_optional tag 2 read_bytes (optional (bytes_field tag) x ++ rest) ≡ Some (x, rest)
   unfolding bytes_field
-  read_maybe_bytes None l = absent 2 read_bytes (omega arith) l
-  read_maybe_bytes (Some bs) l =
-      simp append_assoc (rw (after_key_lem tag 2 (varint (length bs) ++ (bs ++ rest)), read_bytes_lem bs rest))
+  read_maybe_bytes x l = grind (arith, common_steps, absent, after_key_lem, read_bytes_lem)
 
   read_maybe_number : (limit : ℕ) (x : Option ℕ) → unwrap_or x 0 < limit → Later (suc tag) rest
       → read_optional tag 0 (read_below limit) (optional (varint_field tag) x ++ rest) ≡ Some (x, rest)
   unfolding varint_field
-  read_maybe_number limit None h l = absent 0 (read_below limit) (omega arith) l
-  read_maybe_number limit (Some v) h l =
-      rw (append_assoc, after_key_lem tag 0 (varint v ++ rest), read_below_lem limit v rest h)
+  read_maybe_number limit x h l = grind (arith, common_steps, absent, after_key_lem, read_below_lem)
 
   read_maybe_bool : (x : Option Bool) → Later (suc tag) rest
       → read_optional tag 0 read_bool (optional (bool_field tag) x ++ rest) ≡ Some (x, rest)
   unfolding varint_field
-  read_maybe_bool None l = absent 0 read_bool (omega arith) l
-  read_maybe_bool (Some b) l =
-      rw (append_assoc, after_key_lem tag 0 (varint (bool_number b) ++ rest), read_bool_lem b rest)
+  read_maybe_bool x l = grind (arith, common_steps, absent, after_key_lem, read_bool_lem)
 
   read_number : (limit v : ℕ) → v < limit → read_field tag 0 (read_below limit) (varint_field tag v ++ rest) ≡ Some (v, rest)
   unfolding varint_field
-  read_number limit v h = rw (append_assoc, after_key_lem tag 0 (varint v ++ rest), read_below_lem limit v rest h)
+  read_number limit v h = grind (arith, common_steps, after_key_lem, read_below_lem)
 
 -- ── single metadata ──
 

@@ -1,10 +1,11 @@
 -- Laws of the varint: one step at a time, whatever the steps left, and how many bytes there are.
-use Prim.Native.Nat.{ℕ, zero, suc, ◌+◌, ◌-◌, ◌/◌, ◌%◌, ◌^◌, ◌≤◌, ◌<◌}
-use mathlib.Core.Path.{◌≡◌, refl, sym, ◌∙◌}
+use Prim.Native.Nat.{ℕ, zero, suc, ◌+◌, ◌/◌, ◌%◌, ◌^◌, ◌≤◌, ◌<◌}
+use mathlib.Core.Path.{◌≡◌, refl}
 use mathlib.Core.List.{[], ◌∷◌}
 use mathlib.Core.Bool.{Bool, true, false}
 use native.Mathlib.Omega.{arith}
-use native.Mathlib.Nat.{div-lt_iff_lt-mul, le-div_iff_mul-le, pow-suc, one-le-pow}
+use Rattle.std.proofs.lemmas.Grind.{common_steps}
+use native.Mathlib.Nat.{one-le-pow}
 use lib.ListN.{length}
 use lib.Dec.{ltb}
 use lib.IntN.{negsuc}
@@ -29,13 +30,9 @@ split {P} v one more = go (ltb v 128) refl
     go false e = more (ltb-false v 128 e)
 
 enough : (n m v : ℕ) → v ≤ n → v ≤ m → varint_by n v ≡ varint_by m v
-enough zero m v h k = by_small zero v (omega arith) ∙ sym (by_small m v (omega arith))
-enough (suc n) zero v h k = by_small (suc n) v (omega arith) ∙ sym (by_small zero v (omega arith))
-enough (suc n) (suc m) v h k =
-    let again : 128 ≤ v → varint_by n (v / 128) ≡ varint_by m (v / 128) = λ b. enough n m (v / 128) (omega arith) (omega arith) in
-    split v
-    (λ b. by_small (suc n) v b ∙ sym (by_small (suc m) v b))
-    (λ b. rw (by_large n v b, by_large m v b, again b))
+enough zero m v h k = grind (arith, by_small)
+enough (suc n) zero v h k = grind (arith, by_small)
+enough (suc n) (suc m) v h k = grind (arith, by_small, by_large, enough n m (v / 128))
 
 pub small : (v : ℕ) → v < 128 → varint v ≡ v ∷ []
 unfolding varint
@@ -48,33 +45,23 @@ large (suc v) h = rw (by_large v (suc v) h, enough v (suc v / 128) (suc v / 128)
 
 -- k + 1 bytes hold a number below 128 ^ (k + 1)
 pub short : (k v : ℕ) → v < 128 ^ suc k → length (varint v) ≤ suc k
-short zero v h = rw (small v h) (omega arith)
-short (suc k) v h =
-    let again : length (varint (v / 128)) ≤ suc k = short k (v / 128) ((div-lt_iff_lt-mul (omega arith)).1 (rw pow-suc at h)) in
-    split v
-    (λ b. rw (small v b) (omega arith))
-    (λ b. rw (large v b) (omega arith))
+short zero v h = grind (arith, common_steps, small)
+short (suc k) v h = grind (arith, common_steps, small, large, short k (v / 128))
 
 pub at_most_ten : (v : ℕ) → v < 2 ^ 64 → length (varint v) ≤ 10
 at_most_ten v h = short 9 v (omega arith)
 
 pub one_or_more : (v : ℕ) → 1 ≤ length (varint v)
-one_or_more v =
-    split v (λ b. rw (small v b) (omega arith)) (λ b. rw (large v b) (omega arith))
+one_or_more v = grind (arith, common_steps, small, large)
 
 -- and a number from 128 ^ k on takes more than k
 pub long : (k v : ℕ) → 128 ^ k ≤ v → k < length (varint v)
 long zero v h = one_or_more v
-long (suc k) v h =
-    let q : 128 ^ k ≤ v / 128 = (le-div_iff_mul-le {k = 128} (omega arith)).1 (rw pow-suc at h) in
-    let p : 1 ≤ 128 ^ k = one-le-pow k 128 (omega arith) in
-    let r = long k (v / 128) q in
-    rw (large v (omega arith)) (omega arith)
+long (suc k) v h = grind (arith, common_steps, large, long k (v / 128), one-le-pow k 128)
 
 -- an int32 that is negative takes ten bytes
 pub negative_ten : (n : ℕ) → n < 2 ^ 31 → length (varint (extended (negsuc n))) ≡ 10
-negative_ten n h =
-    let v = 2 ^ 64 - 1 - n in
-    let l : length (varint v) ≤ 10 = at_most_ten v (omega arith) in
-    let m : 9 < length (varint v) = long 9 v (omega arith) in
-    omega arith
+negative_ten n h = grind (arith, at_most_ten, long 9)
+
+-- for a loop that takes one byte off what is left
+pub ruleset byte_steps = (small, large, at_most_ten)

@@ -7,29 +7,29 @@ ghost use Rattle.wire.specs.Buffer.{Room, Puts};
 use crate::be32::put_be32;
 use crate::copy::copy;
 use crate::single::{put_single, single_len};
-use crate::sum::sum;
-use types::message::SingleMessage;
+use types::message::{Part, SingleMessage};
 
 // How many bytes `put_item` writes.
+#[tactic(auto, unfolding(crate::specs::Length::item_length))]
 pub fn item_len(m: SingleMessage) -> usize
     ensures { result ≡ stopped (item_length m) }
 {
-    let payload = m.payload;
-    sum(sum(4, single_len(m)), payload.len)
+    single_len(m)
+        .saturating_add(4)
+        .saturating_add(m.payload.len)
 }
 
 // Writes the item from `at` on, and answers the next place. The rest of `out` is lent to the writer of the single metadata and
 // then to the payload copy; the four bytes before say what the first has written.
+#[tactic(auto, using(crate::proofs::Lengths::item_size))]
 pub fn put_item(out: &mut [u8], at: usize, store: &[u8], m: SingleMessage) -> usize
     requires { InStore (length store.now) m × Room (item (item_of store.now m)) at out.old }
     ensures { Puts (item (item_of store.now m)) at out.old out.new result }
 {
-    let payload = m.payload;
-    let start = payload.start;
-    let end = start + payload.len;
+    let Part { start, len } = m.payload;
     let single_at = at + 4;
     let n = put_single(&mut out[single_at..], store, m);
     put_be32(out, at, n);
     let payload_at = single_at + n;
-    payload_at + copy(&mut out[payload_at..], &store[start..end])
+    payload_at + copy(&mut out[payload_at..], &store[start..start + len])
 }

@@ -6,10 +6,6 @@ pub fn copy(out: &mut [u8], src: &[u8]) -> usize
     requires { Room src.now 0 out.old }
     ensures { Puts src.now 0 out.old out.new result }
 {
-    let mut i = 0;
-    while i < src.len() {
-        out[i] = src[i];
-        i += 1;
-    }
-    i
+    out[..src.len()].copy_from_slice(src);
+    src.len()
 }

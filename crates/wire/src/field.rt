@@ -1,105 +1,127 @@
 // Protocol Buffers fields: a varint, or bytes after their length. A tag is a u8, so that no key overflows.
-ghost use Rattle.std.specs.Prelude.{◌≡◌, true, length};
-ghost use Rattle.types.specs.Values.{bytes_of, maybe_in};
+ghost use Rattle.std.specs.Prelude.{◌≡◌, ◌+◌, ◌≤◌, ℕ, List, true, length, replicate, refl, None, Some};
+ghost use Rattle.std.specs.Option.{ForSome};
+ghost use Rattle.types.specs.Values.{part_of, part_in};
 ghost use Rattle.wire.specs.Proto.{varint_field, bytes_field, bool_field, optional};
-ghost use Rattle.wire.specs.Length.{zeros, stopped};
-ghost use Rattle.wire.specs.Buffer.{Room, Puts};
+ghost use Rattle.wire.specs.Length.{stopped};
+ghost use Rattle.wire.specs.Buffer.{Puts};
+ghost use Rattle.wire.specs.Fields.{part_field_length};
 
-use types::message::Part;
 use crate::copy::copy;
-use crate::sum::sum;
 use crate::varint::{put_varint, varint_len};
+use types::message::Part;
 
 // Wire types.
 const VARINT: u64 = 0;
 
 const LENGTH_DELIMITED: u64 = 2;
 
-pub fn put_number(out: &mut [u8], at: usize, tag: u8, v: u64) -> usize
-    requires { Room (varint_field tag v) at out.old }
-    ensures { Puts (varint_field tag v) at out.old out.new result }
-{
-    let value_at = put_varint(out, at, tag as u64 * 8 + VARINT);
-    put_varint(out, value_at, v)
+// What a field can hold. A part's bytes are in the store that the caller lends.
+pub trait Field {
+    // Its bytes lie in a store of that length.
+    ghost stored: { ℕ → Self → Type 0 };
+
+    // The field over a store, under a tag.
+    ghost bytes: { List ℕ → ℕ → Self → List ℕ };
+
+    // The same with zeros for what is in the store, known without it.
+    ghost blank: { ℕ → Self → List ℕ };
+
+    fn put_field(self, out: &mut [u8], at: usize, tag: u8, store: &[u8]) -> usize
+        requires stored { stored (length store.now) self }
+        requires room { at + length (bytes store.now tag self) ≤ length out.old }
+        ensures { Puts (bytes store.now tag self) at out.old out.new result };
+
+    // How many bytes `put_field` writes.
+    fn field_len(self, tag: u8) -> usize
+        ensures { result ≡ stopped (length (blank tag self)) };
+
+    ghost as_long: { (store : List ℕ) (tag : ℕ) (x : Self) → stored (length store) x → length (bytes store tag x) ≡ length (blank tag x) };
 }
 
-fn put_bytes(out: &mut [u8], at: usize, tag: u8, bytes: &[u8]) -> usize
-    requires { Room (bytes_field tag bytes.now) at out.old }
-    ensures { Puts (bytes_field tag bytes.now) at out.old out.new result }
-{
-    let length_at = put_varint(out, at, tag as u64 * 8 + LENGTH_DELIMITED);
-    let bytes_at = put_varint(out, length_at, bytes.len() as u64);
-    bytes_at + copy(&mut out[bytes_at..], bytes)
-}
+#[tactic(auto, unfolding(crate::specs::Proto::varint_field, crate::specs::Proto::key))]
+impl Field for u64 {
+    ghost stored = { λ n v. Unit {0} };
 
-pub fn put_maybe_number(out: &mut [u8], at: usize, tag: u8, v: Option<u64>) -> usize
-    requires { Room (optional (varint_field tag) v) at out.old }
-    ensures { Puts (optional (varint_field tag) v) at out.old out.new result }
-{
-    match v {
-        None => at,
-        Some(n) => put_number(out, at, tag, n),
+    ghost bytes = { λ store tag v. varint_field tag v };
+
+    ghost blank = { λ tag v. varint_field tag v };
+
+    ghost as_long = { λ store tag v h. refl };
+
+    fn put_field(self, out: &mut [u8], at: usize, tag: u8, _store: &[u8]) -> usize {
+        let value_at = put_varint(out, at, tag as u64 * 8 + VARINT);
+        put_varint(out, value_at, self)
     }
-}
 
-pub fn put_maybe_part(out: &mut [u8], at: usize, tag: u8, store: &[u8], p: Option<Part>) -> usize
-    requires { (maybe_in (length store.now) p ≡ true) × Room (optional (bytes_field tag) (bytes_of store.now p)) at out.old }
-    ensures { Puts (optional (bytes_field tag) (bytes_of store.now p)) at out.old out.new result }
-{
-    match p {
-        None => at,
-        Some(part) => {
-            let start = part.start;
-            let end = start + part.len;
-            put_bytes(out, at, tag, &store[start..end])
-        }
+    fn field_len(self, tag: u8) -> usize {
+        varint_len(tag as u64 * 8 + VARINT) + varint_len(self)
     }
 }
 
 // A present false is written too.
-pub fn put_maybe_mark(out: &mut [u8], at: usize, tag: u8, mark: Option<bool>) -> usize
-    requires { Room (optional (bool_field tag) mark) at out.old }
-    ensures { Puts (optional (bool_field tag) mark) at out.old out.new result }
-{
-    match mark {
-        None => at,
-        Some(b) => put_number(out, at, tag, b as u64),
+impl Field for bool {
+    ghost stored = { λ n b. Unit {0} };
+
+    ghost bytes = { λ store tag b. bool_field tag b };
+
+    ghost blank = { λ tag b. bool_field tag b };
+
+    ghost as_long = { λ store tag b h. refl };
+
+    fn put_field(self, out: &mut [u8], at: usize, tag: u8, store: &[u8]) -> usize {
+        (self as u64).put_field(out, at, tag, store)
+    }
+
+    fn field_len(self, tag: u8) -> usize {
+        (self as u64).field_len(tag)
     }
 }
 
-pub fn number_len(tag: u8, v: u64) -> usize
-    ensures { result ≡ stopped (length (varint_field tag v)) }
-{
-    varint_len(tag as u64 * 8 + VARINT) + varint_len(v)
-}
+#[tactic(auto, unfolding(crate::specs::Proto::bytes_field, crate::specs::Proto::key))]
+impl Field for Part {
+    ghost stored = { λ n p. part_in n p ≡ true };
 
-pub fn maybe_number_len(tag: u8, v: Option<u64>) -> usize
-    ensures { result ≡ stopped (length (optional (varint_field tag) v)) }
-{
-    match v {
-        None => 0,
-        Some(n) => number_len(tag, n),
+    ghost bytes = { λ store tag p. bytes_field tag (part_of store p) };
+
+    ghost blank = { λ tag p. bytes_field tag (replicate p.len 0) };
+
+    ghost as_long = { part_field_length };
+
+    fn put_field(self, out: &mut [u8], at: usize, tag: u8, store: &[u8]) -> usize {
+        let Part { start, len } = self;
+        let length_at = put_varint(out, at, tag as u64 * 8 + LENGTH_DELIMITED);
+        let bytes_at = put_varint(out, length_at, len as u64);
+        bytes_at + copy(&mut out[bytes_at..], &store[start..start + len])
+    }
+
+    fn field_len(self, tag: u8) -> usize {
+        let head = varint_len(tag as u64 * 8 + LENGTH_DELIMITED) + varint_len(self.len as u64);
+        head.saturating_add(self.len)
     }
 }
 
-pub fn maybe_mark_len(tag: u8, mark: Option<bool>) -> usize
-    ensures { result ≡ stopped (length (optional (bool_field tag) mark)) }
-{
-    match mark {
-        None => 0,
-        Some(b) => number_len(tag, b as u64),
-    }
-}
+// An absent field is left out.
+impl<T: Field> Field for Option<T> {
+    ghost stored = { λ n x. ForSome x (T.stored n) };
 
-pub fn maybe_part_len(tag: u8, p: Option<Part>) -> usize
-    ensures { result ≡ stopped (length (optional (bytes_field tag) (zeros p))) }
-{
-    match p {
-        None => 0,
-        Some(part) => {
-            let n = part.len;
-            let head = varint_len(tag as u64 * 8 + LENGTH_DELIMITED) + varint_len(n as u64);
-            sum(head, n)
+    ghost bytes = { λ store tag x. optional (T.bytes store tag) x };
+
+    ghost blank = { λ tag x. optional (T.blank tag) x };
+
+    ghost as_long = { λ store tag. elim [ None ↦ λ h. refl | Some v ↦ λ h. T.as_long store tag v (h v refl) ] };
+
+    fn put_field(self, out: &mut [u8], at: usize, tag: u8, store: &[u8]) -> usize {
+        match self {
+            None => at,
+            Some(v) => v.put_field(out, at, tag, store),
+        }
+    }
+
+    fn field_len(self, tag: u8) -> usize {
+        match self {
+            None => 0,
+            Some(v) => v.field_len(tag),
         }
     }
 }

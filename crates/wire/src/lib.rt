@@ -6,6 +6,5 @@ mod be32;
 pub mod copy;
 mod field;
 pub mod single;
-mod sum;
 pub mod uuid;
 mod varint;

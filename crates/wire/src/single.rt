@@ -5,46 +5,33 @@ ghost use Rattle.wire.specs.Batch.{metadata_of, InStore};
 ghost use Rattle.wire.specs.Length.{single_length, stopped};
 ghost use Rattle.wire.specs.Buffer.{Room, Puts};
 
-use crate::field::{
-    maybe_mark_len, maybe_number_len, maybe_part_len, number_len, put_maybe_mark, put_maybe_number,
-    put_maybe_part, put_number,
-};
-use crate::sum::sum;
+use crate::field::Field;
 use types::message::SingleMessage;
 
 // How many bytes `put_single` writes: a flush has no store at hand.
+#[tactic(auto, using(crate::proofs::Lengths::single_steps))]
 pub fn single_len(m: SingleMessage) -> usize
     ensures { result ≡ stopped (single_length m) }
 {
-    let payload = m.payload;
-    let partition_key = m.partition_key;
-    let event_time = m.event_time;
-    let ordering_key = m.ordering_key;
-    let null_value = m.null_value;
-    let null_partition_key = m.null_partition_key;
-    let mut n = maybe_part_len(2, partition_key);
-    n = sum(n, number_len(3, payload.len as u64));
-    n = sum(n, maybe_number_len(5, event_time));
-    n = sum(n, maybe_part_len(7, ordering_key));
-    n = sum(n, maybe_mark_len(9, null_value));
-    sum(n, maybe_mark_len(10, null_partition_key))
+    m.partition_key
+        .field_len(2)
+        .saturating_add((m.payload.len as u64).field_len(3))
+        .saturating_add(m.event_time.field_len(5))
+        .saturating_add(m.ordering_key.field_len(7))
+        .saturating_add(m.null_value.field_len(9))
+        .saturating_add(m.null_partition_key.field_len(10))
 }
 
 // Writes the single metadata to the start of `out`.
+#[tactic(auto, using(crate::proofs::Lengths::single_steps))]
 pub fn put_single(out: &mut [u8], store: &[u8], m: SingleMessage) -> usize
     requires { InStore (length store.now) m × Room (single (metadata_of store.now m)) 0 out.old }
     ensures { Puts (single (metadata_of store.now m)) 0 out.old out.new result }
 {
-    let payload = m.payload;
-    let partition_key = m.partition_key;
-    let event_time = m.event_time;
-    let ordering_key = m.ordering_key;
-    let null_value = m.null_value;
-    let null_partition_key = m.null_partition_key;
-    let mut at = put_maybe_part(out, 0, 2, store, partition_key);
-    at = put_number(out, at, 3, payload.len as u64);
-    at = put_maybe_number(out, at, 5, event_time);
-    at = put_maybe_part(out, at, 7, store, ordering_key);
-    at = put_maybe_mark(out, at, 9, null_value);
-    put_maybe_mark(out, at, 10, null_partition_key)
+    let mut at = m.partition_key.put_field(out, 0, 2, store);
+    at = (m.payload.len as u64).put_field(out, at, 3, store);
+    at = m.event_time.put_field(out, at, 5, store);
+    at = m.ordering_key.put_field(out, at, 7, store);
+    at = m.null_value.put_field(out, at, 9, store);
+    m.null_partition_key.put_field(out, at, 10, store)
 }

@@ -37,11 +37,9 @@ fn put_uuid(out: &mut [u8], uuid: &[u8]) -> usize
     ensures { Puts (text_from 0 uuid.now) 0 out.old out.new result }
 {
     let mut at = 0;
-    let mut i = 0;
-    while i < uuid.len() {
+    for (i, b) in uuid.iter().enumerate() {
         at = put_dash(out, at, i);
-        at = put_hex(out, at, uuid[i]);
-        i += 1;
+        at = put_hex(out, at, *b);
     }
     at
 }

@@ -1,8 +1,9 @@
 // Base-128 varints, one writer for 32 and 64 bits.
-ghost use Rattle.std.specs.Prelude.{◌≡◌, ◌≤◌, length};
+ghost use Rattle.std.specs.Prelude.{◌≡◌, ◌+◌, ◌≤◌, length};
 ghost use Rattle.wire.specs.Proto.{varint};
-ghost use Rattle.wire.specs.Buffer.{Room, Puts};
+ghost use Rattle.wire.specs.Buffer.{Puts};
 
+#[tactic(auto, using(crate::proofs::VarintLaws::byte_steps))]
 pub fn varint_len(v: u64) -> usize
     ensures { (result ≡ length (varint v)) × (result ≤ 10) }
 {
@@ -16,7 +17,7 @@ pub fn varint_len(v: u64) -> usize
 }
 
 pub fn put_varint(out: &mut [u8], at: usize, v: u64) -> usize
-    requires { Room (varint v) at out.old }
+    requires { at + length (varint v) ≤ length out.old }
     ensures { Puts (varint v) at out.old out.new result }
 {
     let mut rest = v;

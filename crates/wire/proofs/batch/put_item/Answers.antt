@@ -1,71 +1,15 @@
 -- `wire::batch::put_item`: the four bytes go in front of the single metadata, and the payload behind it.
-use native.Mathlib.Omega.{arith}
-use native.Mathlib.Nat.{add-sub_cancel_left, zero-add}
-use Prim.Native.Nat.{ℕ, ◌+◌, ◌-◌, ◌≤◌}
-use mathlib.Core.Path.{◌∙◌, sym, ap}
-use mathlib.Core.List.{List, ◌++◌}
-use lib.ListN.{length, take, drop, length-append}
-use Rattle.types.specs.Values.{part_of}
-use Rattle.wire.specs.Proto.{be32}
-use Rattle.wire.specs.Single.{single}
-use Rattle.wire.specs.Batch.{Item, item, item_of, metadata_of}
-use Rattle.wire.specs.Buffer.{Room, Puts}
-use Rattle.wire.proofs.Writes.{before, second_room, last_room, lent_at, then, lent_room, same}
-use Rattle.wire.proofs.Lengths.{be32_length}
+use Rattle.std.proofs.Common.{arith}
+use Rattle.std.proofs.Math.Nat.{add-sub_cancel_left}
+use Rattle.wire.specs.Batch.{item, item_of}
+use Rattle.wire.proofs.Writes.{counted, then}
+use Rattle.wire.proofs.Lengths.{item_size}
 use Rattle.wire.proofs.batch.put_item.Goals as goal
-
-four-fit : (i : Item) {at : ℕ} {d : List ℕ} → Room (item i) at d → at + 4 ≤ length d
-unfolding item
-four-fit i r = omega (arith, simp (length-append, be32_length) at r.fits)
-
--- four bytes that say how many bytes follow them
-counted : (d : List ℕ) (at : ℕ) (ys b d₂ : List ℕ) (n k : ℕ) → at + 4 ≤ length d
-    → Puts b 0 (take (length d - (at + 4)) (drop (at + 4) d)) ys n
-    → Puts (be32 n) at (take (at + 4) d ++ (ys ++ drop (length d - (at + 4)) (drop (at + 4) d))) d₂ k
-    → Puts (be32 (length b) ++ b) at d d₂ (at + 4 + n)
-counted d at ys b d₂ n k fits v w =
-    before (ap (λ four. at + four) (sym (be32_length (length b)))) (lent_at d ys b (at + 4) n v fits)
-    (rw (v.next ∙ zero-add (length b)) at w)
-
-pub slice_bounds-put_single-count : goal.slice_bounds-put_single-count
-slice_bounds-put_single-count c = omega (arith, four-fit _ c.requires.1)
-
-pub slice_bounds-put_single-start : goal.slice_bounds-put_single-start
-slice_bounds-put_single-start c = omega (arith, four-fit _ c.requires.1)
-
-pub put_single-n-requires : goal.put_single-n-requires
-unfolding item
-put_single-n-requires c =
-    let md = single (metadata_of c.args.store.now c.args.m) in
-    let payload = part_of c.args.store.now c.args.m.payload in
-    let place = ap (λ four. c.args.at + four) (sym (be32_length (length md))) in
-    (c.requires.0, lent_room (second_room (be32 (length md)) payload place c.requires.1))
-
-pub put_be32-requires : goal.put_be32-requires
-put_be32-requires c =
-    omega (arith, four-fit _ c.requires.1)
-
-pub slice_bounds-copy-count : goal.slice_bounds-copy-count
-slice_bounds-copy-count c =
-    let fits = four-fit _ c.requires.1 in
-    let head = counted _ _ _ _ _ _ _ fits c.put_single-n.ensures c.put_be32.ensures in
-    let r = head.room in
-    let n = head.next in
-    omega (arith, same head)
-
-pub slice_bounds-copy-start : goal.slice_bounds-copy-start
-slice_bounds-copy-start c = slice_bounds-copy-count c
-
-pub copy-requires : goal.copy-requires
-unfolding item
-copy-requires c =
-    let fits = four-fit (item_of c.args.store.now c.args.m) c.requires.1 in
-    let head = counted _ _ _ _ _ _ _ fits c.put_single-n.ensures c.put_be32.ensures in
-    rw add-sub_cancel_left (lent_room (last_room head c.requires.1))
 
 pub returns : goal.returns
 unfolding item
 returns c =
-    let fits = four-fit (item_of c.args.store.now c.args.m) c.requires.1 in
-    let head = counted _ _ _ _ _ _ _ fits c.put_single-n.ensures c.put_be32.ensures in
-    rw add-sub_cancel_left at (then _ _ _ _ _ c.copy.ensures head)
+    let room = c.requires.1.fits in
+    let size = item_size (item_of c.args.store.now c.args.m) in
+    let head = counted c.args.out.now c.args.at (omega arith) c.put_single-n.ensures c.put_be32.ensures in
+    rw add-sub_cancel_left at (then head c.copy.ensures)
