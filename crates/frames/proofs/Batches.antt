@@ -87,17 +87,18 @@ module _ (held : List SingleMessage) (full : length held ≡ 512) (h k : ℕ) (l
   pub held_length : length (ring 512 held h k) ≡ k
   held_length = length_ring 512 (lit< tt) held full h k ∙ omega arith
 
-  pub held_at : (i : ℕ) (d : SingleMessage) → i < k → get_or (ring 512 held h k) i d ≡ get_or held (slot 512 h i) d
-  held_at i d b = ring_at 512 (lit< tt) held full d h k i (omega arith)
+  -- the messages as a loop reads them, each at its slot
+  pub held_at : (i at : ℕ) (d : SingleMessage) → at ≡ slot 512 h i → i < k → get_or (ring 512 held h k) i d ≡ get_or held at d
+  held_at i at d q b = ring_at 512 (lit< tt) held full d h k i (omega arith) ∙ ap (λ (j : ℕ). get_or held j d) (sym q)
 
-  module _ (store : List ℕ) (i : ℕ) (d : SingleMessage) (b : i < k) where
-    pub held_in_lem : all_in (length store) (ring 512 held h k) ≡ true → InStore (length store) (get_or held (slot 512 h i) d)
+  module _ (store : List ℕ) (i at : ℕ) (d : SingleMessage) (q : at ≡ slot 512 h i) (b : i < k) where
+    pub held_in_lem : all_in (length store) (ring 512 held h k) ≡ true → InStore (length store) (get_or held at d)
     held_in_lem e =
-        subst (InStore (length store)) (held_at i d b)
+        subst (InStore (length store)) (held_at i at d q b)
         (all_at (InStore (length store)) (ring 512 held h k) i d (all_in_lem (length store) (ring 512 held h k) e) (omega (arith, held_length)))
 
     pub held_next : batch_payload store (drop i (ring 512 held h k))
-        ≡ item (item_of store (get_or held (slot 512 h i) d)) ++ batch_payload store (drop (i + 1) (ring 512 held h k))
+        ≡ item (item_of store (get_or held at d)) ++ batch_payload store (drop (i + 1) (ring 512 held h k))
     held_next =
         batch_step store (ring 512 held h k) i d (omega (arith, held_length))
-        ∙ ap (λ (m : SingleMessage). item (item_of store m) ++ batch_payload store (drop (i + 1) (ring 512 held h k))) (held_at i d b)
+        ∙ ap (λ (m : SingleMessage). item (item_of store m) ++ batch_payload store (drop (i + 1) (ring 512 held h k))) (held_at i at d q b)

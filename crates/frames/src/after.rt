@@ -8,45 +8,27 @@ use types::frame::{ChunkedMessageContext, FrameKind, FrameRecord};
 fn has_next(c: ChunkedMessageContext) -> bool
     ensures { result ≡ has_next c }
 {
-    if c.next_chunk < c.total_chunks {
-        1 < c.total_chunks - c.next_chunk
-    } else {
-        false
-    }
+    c.next_chunk.saturating_add(1) < c.total_chunks
 }
 
 // Whether the record stays once its first frame is gone.
 pub fn stays(kind: FrameKind) -> bool
     ensures { result ≡ stays_of kind }
 {
-    match kind {
-        FrameKind::Single => false,
-        FrameKind::Batch(_) => false,
-        FrameKind::Chunked(c) => has_next(c),
-    }
+    matches!(kind, FrameKind::Chunked(c) if has_next(c))
 }
 
 pub fn record_after(front: FrameRecord) -> FrameRecord
     ensures { result ≡ record_after front front.kind }
 {
-    let kind = front.kind;
-    match kind {
-        FrameKind::Single => front,
-        FrameKind::Batch(_) => front,
-        FrameKind::Chunked(c) => {
-            if has_next(c) {
-                let next = ChunkedMessageContext {
-                    total_chunks: c.total_chunks,
-                    next_chunk: c.next_chunk + 1,
-                    max_chunk_size: c.max_chunk_size,
-                };
-                FrameRecord {
-                    kind: FrameKind::Chunked(next),
-                    ..front
-                }
-            } else {
-                front
-            }
-        }
+    match front.kind {
+        FrameKind::Chunked(c) if has_next(c) => FrameRecord {
+            kind: FrameKind::Chunked(ChunkedMessageContext {
+                next_chunk: c.next_chunk + 1,
+                ..c
+            }),
+            ..front
+        },
+        _ => front,
     }
 }

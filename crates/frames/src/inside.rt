@@ -10,49 +10,28 @@ use types::message::{OutgoingMessage, Part, SingleMessage};
 pub fn piece_inside(start: usize, skip: usize, len: usize, n: usize) -> bool
     ensures { result ≡ leb (start + skip + len) n }
 {
-    if skip <= n {
-        part_in(
-            n - skip,
-            Part {
-                start: start,
-                len: len,
-            },
-        )
-    } else {
-        false
-    }
+    skip <= n && part_in(n - skip, Part { start, len })
 }
 
 // An empty name is not borne.
 fn name_inside(name: Part, n: usize) -> bool
     ensures { result ≡ name_in n name }
 {
-    if name.len == 0 {
-        true
-    } else {
-        part_in(n, name)
-    }
+    name.len == 0 || part_in(n, name)
 }
 
 pub fn message_inside(payload: bool, m: OutgoingMessage, n: usize) -> bool
     ensures { result ≡ borne n m payload }
 {
-    let partition_key = m.partition_key;
-    let ordering_key = m.ordering_key;
-    let schema_version = m.schema_version;
-    let name = m.producer_name;
     payload
-        & maybe_part_in(n, partition_key)
-        & maybe_part_in(n, ordering_key)
-        & maybe_part_in(n, schema_version)
-        & name_inside(name, n)
+        && maybe_part_in(n, m.partition_key)
+        && maybe_part_in(n, m.ordering_key)
+        && maybe_part_in(n, m.schema_version)
+        && name_inside(m.producer_name, n)
 }
 
 pub fn single_inside(m: SingleMessage, n: usize) -> bool
     ensures { result ≡ single_in n m }
 {
-    let payload = m.payload;
-    let partition_key = m.partition_key;
-    let ordering_key = m.ordering_key;
-    part_in(n, payload) & maybe_part_in(n, partition_key) & maybe_part_in(n, ordering_key)
+    part_in(n, m.payload) && maybe_part_in(n, m.partition_key) && maybe_part_in(n, m.ordering_key)
 }

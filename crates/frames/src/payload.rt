@@ -7,6 +7,7 @@ ghost use Rattle.queue.specs.Frame.{all_in};
 ghost use Rattle.frames.specs.Payload.{payload_of, Writable};
 
 use crate::span::{Span, is_batch};
+use rules::rings::Ring;
 use types::frame::FrameKind;
 use types::message::SingleMessage;
 use wire::batch::put_item;
@@ -23,14 +24,10 @@ pub fn put_batch(
     requires { (count ≤ 512) × (all_in (length store.now) (ring 512 held head count) ≡ true) × Room (batch_payload store.now (ring 512 held head count)) 0 out.old }
     ensures { Puts (batch_payload store.now (ring 512 held head count)) 0 out.old out.new result }
 {
-    let h = head % 512;
-    let mut to: usize = 0;
-    let mut i: usize = 0;
-    while i < count {
-        let at = (h + i) % 512;
-        let m = held[at];
-        to = put_item(out, to, store, m);
-        i += 1;
+    let ring = Ring::<512> { head, len: count };
+    let mut to = 0;
+    for i in 0..count {
+        to = put_item(out, to, store, held[ring.slot(i)]);
     }
     to
 }
@@ -51,8 +48,6 @@ pub fn put_payload(
     if is_batch(kind) {
         put_batch(out, store, held, head, count)
     } else {
-        let start = span.start;
-        let end = start + span.len;
-        copy(out, &store[start..end])
+        copy(out, &store[span.start..span.start + span.len])
     }
 }

@@ -4,7 +4,7 @@ ghost use Rattle.laws.specs.Ring.{ring};
 ghost use Rattle.frames.specs.Span.{skip_of, piece_len, message_span, empty_span, with_item, batch_span, is_batch, held_count, span_of};
 
 use crate::inside::{message_inside, piece_inside, single_inside};
-use rules::numbers::{at_most, saturating_add, saturating_sub};
+use rules::rings::Ring;
 use types::frame::{FrameKind, FrameRecord};
 use types::message::SingleMessage;
 use wire::batch::item_len;
@@ -24,9 +24,8 @@ fn skip_of(kind: FrameKind) -> usize
     ensures { result ≡ skip_of kind }
 {
     match kind {
-        FrameKind::Single => 0,
-        FrameKind::Batch(_) => 0,
         FrameKind::Chunked(c) => c.next_chunk as usize * c.max_chunk_size as usize,
+        _ => 0,
     }
 }
 
@@ -34,9 +33,8 @@ fn piece_len(kind: FrameKind, len: usize, skip: usize) -> usize
     ensures { result ≡ piece_len kind len skip }
 {
     match kind {
-        FrameKind::Single => len,
-        FrameKind::Batch(_) => len,
-        FrameKind::Chunked(c) => at_most(c.max_chunk_size as usize, saturating_sub(len, skip)),
+        FrameKind::Chunked(c) => len.saturating_sub(skip).min(c.max_chunk_size as usize),
+        _ => len,
     }
 }
 
@@ -44,28 +42,20 @@ fn piece_len(kind: FrameKind, len: usize, skip: usize) -> usize
 pub fn message_span(front: FrameRecord, n: usize) -> Span
     ensures { result ≡ message_span n front }
 {
-    let kind = front.kind;
-    let m = front.message;
-    let payload = m.payload;
-    let start = payload.start;
-    let skip = skip_of(kind);
-    let len = piece_len(kind, payload.len, skip);
-    let inside = message_inside(piece_inside(start, skip, len, n), m, n);
+    let payload = front.message.payload;
+    let skip = skip_of(front.kind);
+    let len = piece_len(front.kind, payload.len, skip);
     Span {
-        inside: inside,
-        start: saturating_add(start, skip),
-        len: len,
+        inside: message_inside(piece_inside(payload.start, skip, len, n), front.message, n),
+        start: payload.start.saturating_add(skip),
+        len,
     }
 }
 
 pub fn is_batch(kind: FrameKind) -> bool
     ensures { result ≡ is_batch kind }
 {
-    match kind {
-        FrameKind::Single => false,
-        FrameKind::Batch(_) => true,
-        FrameKind::Chunked(_) => false,
-    }
+    matches!(kind, FrameKind::Batch(_))
 }
 
 // How many of the held messages go with the frame.
@@ -73,9 +63,8 @@ pub fn held_count(kind: FrameKind, held_len: usize) -> usize
     ensures { result ≡ held_count kind held_len }
 {
     match kind {
-        FrameKind::Single => 0,
-        FrameKind::Batch(b) => at_most(b.num_messages, at_most(held_len, 512)),
-        FrameKind::Chunked(_) => 0,
+        FrameKind::Batch(b) => b.num_messages.min(held_len.min(512)),
+        _ => 0,
     }
 }
 
@@ -95,9 +84,9 @@ pub fn with_item(span: Span, m: SingleMessage, n: usize) -> Span
     ensures { result ≡ with_item n span m }
 {
     Span {
-        inside: span.inside & single_inside(m, n),
-        start: span.start,
-        len: saturating_add(span.len, item_len(m)),
+        inside: span.inside && single_inside(m, n),
+        len: span.len.saturating_add(item_len(m)),
+        ..span
     }
 }
 
@@ -106,14 +95,10 @@ pub fn batch_span(held: [SingleMessage; 512], head: usize, count: usize, n: usiz
     requires { count ≤ 512 }
     ensures { result ≡ batch_span n (ring 512 held head count) }
 {
-    let h = head % 512;
+    let ring = Ring::<512> { head, len: count };
     let mut span = empty_span();
-    let mut i: usize = 0;
-    while i < count {
-        let at = (h + i) % 512;
-        let m = held[at];
-        span = with_item(span, m, n);
-        i += 1;
+    for i in 0..count {
+        span = with_item(span, held[ring.slot(i)], n);
     }
     span
 }
@@ -128,8 +113,7 @@ pub fn payload_span(
     requires { count ≤ 512 }
     ensures { result ≡ span_of n front front.kind (ring 512 held head count) }
 {
-    let kind = front.kind;
-    if is_batch(kind) {
+    if is_batch(front.kind) {
         batch_span(held, head, count, n)
     } else {
         message_span(front, n)

@@ -9,60 +9,41 @@ use types::message::{OutgoingMessage, Part};
 pub fn part_in(n: usize, p: Part) -> bool
     ensures { result ≡ part_in n p }
 {
-    if p.len <= n {
-        let room = n - p.len;
-        p.start <= room
-    } else {
-        false
-    }
+    p.len <= n && p.start <= n - p.len
 }
 
 // An absent part is not tested.
 pub fn maybe_part_in(n: usize, p: Option<Part>) -> bool
     ensures { result ≡ maybe_in n p }
 {
-    match p {
-        None => true,
-        Some(q) => part_in(n, q),
-    }
+    p.is_none_or(|q| part_in(n, q))
 }
 
 // 2: every part of the message lies in a store of n bytes.
 pub fn message_in(n: usize, m: OutgoingMessage) -> bool
     ensures { result ≡ message_in n m m.payload }
 {
-    let payload = m.payload;
-    let partition_key = m.partition_key;
-    let ordering_key = m.ordering_key;
-    let schema_version = m.schema_version;
-    let producer_name = m.producer_name;
-    part_in(n, payload)
-        & maybe_part_in(n, partition_key)
-        & maybe_part_in(n, ordering_key)
-        & maybe_part_in(n, schema_version)
-        & part_in(n, producer_name)
+    part_in(n, m.payload)
+        && maybe_part_in(n, m.partition_key)
+        && maybe_part_in(n, m.ordering_key)
+        && maybe_part_in(n, m.schema_version)
+        && part_in(n, m.producer_name)
 }
 
 pub fn up_to(most: usize, p: Option<Part>) -> bool
     ensures { result ≡ up_to most p }
 {
-    match p {
-        None => true,
-        Some(q) => q.len <= most,
-    }
+    p.is_none_or(|q| q.len <= most)
 }
 
 // 3: no length over its bound, the reservation's included.
 pub fn within_bounds(m: OutgoingMessage, reservation: MemoryReservation) -> bool
     ensures { result ≡ within_bounds m reservation.bytes }
 {
-    let partition_key = m.partition_key;
-    let ordering_key = m.ordering_key;
-    let schema_version = m.schema_version;
-    (m.payload.len <= 16_777_216)
-        & up_to(1024, partition_key)
-        & up_to(1024, ordering_key)
-        & up_to(1024, schema_version)
-        & (m.producer_name.len <= 64)
-        & reservation.within_bound()
+    m.payload.len <= 16_777_216
+        && up_to(1024, m.partition_key)
+        && up_to(1024, m.ordering_key)
+        && up_to(1024, m.schema_version)
+        && m.producer_name.len <= 64
+        && reservation.within_bound()
 }

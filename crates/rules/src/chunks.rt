@@ -3,8 +3,6 @@ ghost use Rattle.std.specs.Prelude.{◌≡◌, ◌*◌, min};
 ghost use Rattle.queue.specs.Send.{chunk_size, total_chunks};
 ghost use Rattle.rules.specs.Chunks.{cut_of};
 
-use crate::numbers::at_most;
-
 // Chunks of this size, so many.
 #[derive(Clone, Copy)]
 pub struct Cut {
@@ -30,40 +28,32 @@ pub fn chunk_size(max_message_size: usize) -> usize
     }
 }
 
-// By quotient and remainder, since the sum that rounds up could overflow.
+// The payload over the size, rounded up, from 1 to the most that a command can bear.
+#[tactic(auto, using(crate::proofs::Rounding::rounded_up))]
 pub fn compute_total_chunks(payload_len: usize, max_chunk_size: usize) -> u32
     ensures { result ≡ total_chunks payload_len max_chunk_size }
 {
     if max_chunk_size == 0 {
-        return 1;
+        1
+    } else {
+        payload_len.div_ceil(max_chunk_size).clamp(1, Cut::MOST) as u32
     }
-    let whole = payload_len / max_chunk_size;
-    let rest = payload_len % max_chunk_size;
-    if Cut::MOST <= whole {
-        return Cut::MOST as u32;
-    }
-    if 0 < rest {
-        return (whole + 1) as u32;
-    }
-    if whole == 0 { 1 } else { whole as u32 }
 }
 
 // The payload bytes of all chunks: the whole payload, unless the size is 0 or the count was stopped.
 pub fn chunked_bytes(payload_len: usize, total_chunks: u32, max_chunk_size: u32) -> usize
     ensures { result ≡ min payload_len (total_chunks * max_chunk_size) }
 {
-    let all = (total_chunks as usize) * (max_chunk_size as usize);
-    if payload_len < all { payload_len } else { all }
+    payload_len.min(total_chunks as usize * max_chunk_size as usize)
 }
 
 // How a payload over the limit is cut. A size that 32 bits cannot hold is none that the bound of 3 allows.
 pub fn cut_of(payload_len: usize, max_message_size: usize) -> Cut
     ensures { result ≡ cut_of payload_len max_message_size }
 {
-    let size = at_most(chunk_size(max_message_size), u32::MAX as usize);
-    let count = compute_total_chunks(payload_len, size);
+    let size = chunk_size(max_message_size).min(u32::MAX as usize);
     Cut {
         max_chunk_size: size as u32,
-        total_chunks: count,
+        total_chunks: compute_total_chunks(payload_len, size),
     }
 }

@@ -42,7 +42,7 @@ pub fn wrapping_next(x: u64) -> u64
 pub fn at_least_one(num_messages: i32) -> i32
     ensures { result ≡ pos (at_least_one num_messages) }
 {
-    if num_messages < 1 { 1 } else { num_messages }
+    num_messages.max(1)
 }
 
 // The same as a count.

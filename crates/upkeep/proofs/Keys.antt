@@ -1,6 +1,6 @@
 -- Laws of ids zipped with marks: lengths, elements, and clearing as a change of each element. Assumes nothing.
 use mathlib.Core.Path.{◌≡◌, refl, ap, sym, ◌∙◌}
-use mathlib.Core.Bool.{true, not}
+use mathlib.Core.Bool.{Bool, true, not}
 use mathlib.Core.List.{List, [], ◌∷◌, ◌++◌, append-nil}
 use Prim.Native.Nat.{ℕ, zero, suc, ◌+◌, ◌<◌, ◌≤◌}
 use native.Mathlib.Omega.{arith}
@@ -8,6 +8,8 @@ use lib.Dec.{eqb}
 use lib.ListN.{length, get_or, take, drop, set, length-set, drop_of_length-le}
 use lib.Seq.{drop-cons, take_all}
 use native.Mathlib.Numerals.{add-one}
+use Rattle.std.proofs.Common.{subst, eq-eqb, ne_eqb}
+use Rattle.laws.specs.Choice.{pick}
 use Rattle.laws.proofs.Lists.{stored}
 use Rattle.upkeep.specs.Pending.{keys, cleared, cleared_all}
 
@@ -62,3 +64,14 @@ clear_end id is ms₀ ms i e b s =
     ∙ append-nil (take i ms)
     ∙ take_all i ms l)
     ∙ s.left
+
+-- a mark that is cleared, and one that stays
+pub clear_hit : (id : ℕ) (is ms₀ ms : List ℕ) (i : ℕ) → length is ≡ 256 → i < 256 → get_or is i 0 ≡ id → Clearing id is ms₀ ms i
+    → Clearing id is ms₀ (set ms i 0) (i + 1)
+clear_hit id is ms₀ ms i e b h s =
+    subst (λ (t : Bool). Clearing id is ms₀ (set ms i (pick t 0 (get_or ms i 0))) (i + 1)) (eq-eqb (get_or is i 0) id h) (clear_step id is ms₀ ms i e b s)
+
+pub clear_miss : (id : ℕ) (is ms₀ ms : List ℕ) (i : ℕ) → length is ≡ 256 → i < 256 → (get_or is i 0 ≡ id → ⊥) → Clearing id is ms₀ ms i
+    → Clearing id is ms₀ (set ms i (get_or ms i 0)) (i + 1)
+clear_miss id is ms₀ ms i e b h s =
+    subst (λ (t : Bool). Clearing id is ms₀ (set ms i (pick t 0 (get_or ms i 0))) (i + 1)) (ne_eqb (get_or is i 0) id h) (clear_step id is ms₀ ms i e b s)

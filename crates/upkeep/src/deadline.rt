@@ -8,20 +8,14 @@ use types::time::deadline_with_clamp;
 pub fn after(delay: Option<u64>, time: u64) -> Option<u64>
     ensures { result ≡ maybe_after delay time }
 {
-    match delay {
-        None => None,
-        Some(d) => Some(deadline_with_clamp(time, d)),
-    }
+    delay.map(|d| deadline_with_clamp(time, d))
 }
 
 // Whether a deadline that is there has passed.
 pub fn elapsed(now: u64, deadline: Option<u64>) -> bool
     ensures { result ≡ has_elapsed now deadline }
 {
-    match deadline {
-        None => false,
-        Some(d) => d <= now,
-    }
+    deadline.is_some_and(|d| d <= now)
 }
 
 // A deadline, none where nothing waits for it.

@@ -3,7 +3,6 @@ ghost use Rattle.std.specs.Prelude.{◌≡◌, leb, take};
 ghost use Rattle.queue.specs.Queue.{new_settings};
 ghost use Rattle.queue.specs.Settings.{allowed, changed, closed, name_from};
 
-use rules::numbers::at_most;
 use types::frame::ProducerName;
 use types::settings::{Delays, Limits, ProducerSettings, Setting, Switches};
 
@@ -42,77 +41,74 @@ pub fn allows(s: Setting) -> bool
         Setting::MaxMessageSize(n) => n <= 16_777_216,
         Setting::MaxBatchSizeBytes(n) => n <= 16_777_216,
         Setting::MaxMessagesInBatch(n) => n <= 128,
-        Setting::BatchingEnabled(_) => true,
-        Setting::ChunkingEnabled(_) => true,
-        Setting::SendTimeout(_) => true,
-        Setting::BatchingMaxPublishDelay(_) => true,
-        Setting::BrokerReady(_) => true,
+        Setting::BatchingEnabled(_)
+        | Setting::ChunkingEnabled(_)
+        | Setting::SendTimeout(_)
+        | Setting::BatchingMaxPublishDelay(_)
+        | Setting::BrokerReady(_) => true,
     }
 }
 
 pub fn with_setting(t: ProducerSettings, s: Setting) -> ProducerSettings
     ensures { result ≡ changed s t }
 {
-    let mut limits = t.limits;
-    let mut switches = t.switches;
-    let delays = t.delays;
     match s {
-        Setting::MaxMessageSize(n) => {
-            limits.max_message_size = n;
-            ProducerSettings {
-                limits: limits,
-                ..t
-            }
-        }
-        Setting::MaxBatchSizeBytes(n) => {
-            limits.max_batch_size_bytes = n;
-            ProducerSettings {
-                limits: limits,
-                ..t
-            }
-        }
-        Setting::MaxMessagesInBatch(n) => {
-            limits.max_messages_in_batch = n;
-            ProducerSettings {
-                limits: limits,
-                ..t
-            }
-        }
-        Setting::BatchingEnabled(b) => {
-            switches.batching_enabled = b;
-            ProducerSettings {
-                switches: switches,
-                ..t
-            }
-        }
-        Setting::ChunkingEnabled(b) => {
-            switches.chunking_enabled = b;
-            ProducerSettings {
-                switches: switches,
-                ..t
-            }
-        }
-        Setting::SendTimeout(d) => {
-            let later = Delays {
+        Setting::MaxMessageSize(n) => ProducerSettings {
+            limits: Limits {
+                max_message_size: n,
+                ..t.limits
+            },
+            ..t
+        },
+        Setting::MaxBatchSizeBytes(n) => ProducerSettings {
+            limits: Limits {
+                max_batch_size_bytes: n,
+                ..t.limits
+            },
+            ..t
+        },
+        Setting::MaxMessagesInBatch(n) => ProducerSettings {
+            limits: Limits {
+                max_messages_in_batch: n,
+                ..t.limits
+            },
+            ..t
+        },
+        Setting::BatchingEnabled(b) => ProducerSettings {
+            switches: Switches {
+                batching_enabled: b,
+                ..t.switches
+            },
+            ..t
+        },
+        Setting::ChunkingEnabled(b) => ProducerSettings {
+            switches: Switches {
+                chunking_enabled: b,
+                ..t.switches
+            },
+            ..t
+        },
+        Setting::SendTimeout(d) => ProducerSettings {
+            delays: Delays {
                 send_timeout: d,
-                ..delays
-            };
-            ProducerSettings { delays: later, ..t }
-        }
-        Setting::BatchingMaxPublishDelay(d) => {
-            let later = Delays {
+                ..t.delays
+            },
+            ..t
+        },
+        Setting::BatchingMaxPublishDelay(d) => ProducerSettings {
+            delays: Delays {
                 batching_max_publish_delay: d,
-                ..delays
-            };
-            ProducerSettings { delays: later, ..t }
-        }
-        Setting::BrokerReady(b) => {
-            switches.broker_ready = b;
-            ProducerSettings {
-                switches: switches,
-                ..t
-            }
-        }
+                ..t.delays
+            },
+            ..t
+        },
+        Setting::BrokerReady(b) => ProducerSettings {
+            switches: Switches {
+                broker_ready: b,
+                ..t.switches
+            },
+            ..t
+        },
     }
 }
 
@@ -120,10 +116,11 @@ pub fn with_setting(t: ProducerSettings, s: Setting) -> ProducerSettings
 pub fn closed_settings(t: ProducerSettings) -> ProducerSettings
     ensures { result ≡ closed t }
 {
-    let mut switches = t.switches;
-    switches.closed = true;
     ProducerSettings {
-        switches: switches,
+        switches: Switches {
+            closed: true,
+            ..t.switches
+        },
         ..t
     }
 }
@@ -139,15 +136,8 @@ pub fn allows_name(len: usize) -> bool
 pub fn name_from(name: &[u8]) -> ProducerName
     ensures { result ≡ name_from (take 64 name.now) }
 {
-    let n = at_most(name.len(), 64);
-    let mut bytes = [0u8; 64];
-    let mut i = 0;
-    while i < n {
-        bytes[i] = name[i];
-        i += 1;
-    }
-    ProducerName {
-        bytes: bytes,
-        len: n,
-    }
+    let len = name.len().min(64);
+    let mut bytes = [0; 64];
+    bytes[..len].copy_from_slice(&name[..len]);
+    ProducerName { bytes, len }
 }

@@ -18,8 +18,8 @@ put_item-to-requires c =
     let full : length a.held ≡ 512 = omega arith in
     let le : a.count ≤ 512 = omega arith in
     let here : l.i < a.count = omega arith in
-    let g = subst (λ (todo : List ℕ). Going (batch_payload a.store.now ms) todo 0 a.out.now l.out l.to) (held_next a.held full a.head a.count le a.store.now l.i _ here) l.invariant.1 in
-    (held_in_lem a.held full a.head a.count le a.store.now l.i _ here c.requires.1, going_room (batch_payload a.store.now (drop (l.i + 1) ms)) g c.requires.2)
+    let g = subst (λ (todo : List ℕ). Going (batch_payload a.store.now ms) todo 0 a.out.now l.out l.to) (held_next a.held full a.head a.count le a.store.now l.i _ _ c.slot.ensures here) l.invariant.1 in
+    (held_in_lem a.held full a.head a.count le a.store.now l.i _ _ c.slot.ensures here c.requires.1, going_room (batch_payload a.store.now (drop (l.i + 1) ms)) g c.requires.2)
 
 pub loop-i-preserved : goal.loop-i-preserved
 loop-i-preserved c =
@@ -29,7 +29,7 @@ loop-i-preserved c =
     let full : length a.held ≡ 512 = omega arith in
     let le : a.count ≤ 512 = omega arith in
     let here : l.i < a.count = omega arith in
-    let g = subst (λ (todo : List ℕ). Going (batch_payload a.store.now ms) todo 0 a.out.now l.out l.to) (held_next a.held full a.head a.count le a.store.now l.i _ here) l.invariant.1 in
+    let g = subst (λ (todo : List ℕ). Going (batch_payload a.store.now ms) todo 0 a.out.now l.out l.to) (held_next a.held full a.head a.count le a.store.now l.i _ _ c.slot.ensures here) l.invariant.1 in
     (omega arith, going_step g c.put_item-to.ensures, same c.put_item-to.ensures ∙ l.invariant.2)
 
 pub returns : goal.returns

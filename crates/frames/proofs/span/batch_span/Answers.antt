@@ -20,7 +20,7 @@ loop-i-preserved c =
     let long = held_length a.held full a.head a.count le in
     let ms = ring 512 a.held a.head a.count in
     let next = spans_step a.n ms l.span l.i _ (omega arith) l.invariant.1 in
-    let there = subst (λ (m : SingleMessage). Spans a.n ms (with_item a.n l.span m) (l.i + 1)) (held_at a.held full a.head a.count le l.i _ here) next in
+    let there = subst (λ (m : SingleMessage). Spans a.n ms (with_item a.n l.span m) (l.i + 1)) (held_at a.held full a.head a.count le l.i _ _ c.slot.ensures here) next in
     (omega arith, subst (λ (s : Span). Spans a.n ms s (l.i + 1)) (sym c.with_item-span.ensures) there)
 
 pub returns : goal.returns

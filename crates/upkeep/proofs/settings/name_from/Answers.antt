@@ -1,23 +1,23 @@
--- `upkeep::settings::name_from`: the bytes before the place are copied, and zeros stand behind them.
-use Prim.Native.Nat.{ℕ}
-use mathlib.Core.List.{List}
-use mathlib.Core.Path.{ap, ◌∙◌}
-use lib.ListN.{get_or, set}
-use Rattle.upkeep.proofs.Names.{padded_step, padded_end, front_length}
-use native.Mathlib.Omega.{arith}
+-- `upkeep::settings::name_from`: the bytes that are copied, and zeros behind them.
+use Rattle.std.proofs.Common.{◌≡◌, ℕ, ◌-◌, min, List, ◌++◌, length, take, drop, replicate, ap, ◌∙◌, arith}
+use Rattle.std.proofs.lemmas.List.{take_min, length-take, drop-replicate}
 use Rattle.upkeep.proofs.settings.name_from.Goals as goal
 
-pub loop-i-preserved : goal.loop-i-preserved
-loop-i-preserved c =
-    let k = c.loop-i in
-    let name = c.args.name.now in
-    let n = c.at_most-n in
-    (omega arith, ap (λ (l : List ℕ). set l k.i (get_or name k.i 0)) k.invariant.1 ∙ padded_step name k.i (omega (arith, n.ensures)) (omega (arith, n.ensures)))
+module _ (name : List ℕ) (n : ℕ) (e : n ≡ min (length name) 64) where
+  front : take n name ≡ take 64 name
+  front = let k : n ≡ min 64 (length name) = omega (arith, e) in ap (λ (i : ℕ). take i name) k ∙ take_min 64 name
+
+  size : n ≡ length (take 64 name)
+  size = omega (arith, e, length-take 64 name)
+
+  filled : take n name ++ drop n (replicate 64 0) ≡ take 64 name ++ replicate (64 - length (take 64 name)) 0
+  filled =
+      (λ j. front j ++ drop-replicate n 64 0 j)
+      ∙ ap (λ (k : ℕ). take 64 name ++ replicate (64 - k) 0) size
 
 pub returns : goal.returns
 returns c =
-    let k = c.loop-i in
     let name = c.args.name.now in
-    let n = c.at_most-n in
-    let e = k.invariant.1 ∙ padded_end name k.i (omega (arith, n.ensures)) in
-    λ j. record { bytes = e j; len = front_length name n.result n.ensures j }
+    let n = c.min-len in
+    let e = ap (λ (l : List ℕ). l ++ drop n.result (replicate 64 0)) c.copy_from_slice.ensures.after ∙ filled name n.result n.ensures in
+    λ j. record { bytes = e j; len = size name n.result n.ensures j }
