@@ -6,27 +6,19 @@ ghost use Rattle.laws.specs.Numbers.{signed, bits, less_one};
 pub fn signed_of(x: u64) -> i64
     ensures { result ≡ signed x }
 {
-    if x < 0x8000_0000_0000_0000 {
-        x as i64
-    } else {
-        -1 - ((u64::MAX - x) as i64)
-    }
+    x.cast_signed()
 }
 
 // The bits of a signed number.
 pub fn bits_of(x: i64) -> u64
     ensures { result ≡ bits x }
 {
-    if 0 <= x {
-        x as u64
-    } else {
-        u64::MAX - ((-1 - x) as u64)
-    }
+    x.cast_unsigned()
 }
 
 // One less, stopping at -2^63.
 pub fn saturating_sub_one(x: i64) -> i64
     ensures { result ≡ less_one x }
 {
-    if x == i64::MIN { x } else { x - 1 }
+    x.saturating_sub(1)
 }

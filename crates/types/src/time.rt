@@ -15,12 +15,8 @@ impl Deadline {
 pub fn deadline_with_clamp(base: u64, delta: u64) -> u64
     ensures { result ≡ deadline_with_clamp base delta }
 {
-    let room = u64::MAX - base;
-    if delta <= room {
-        base + delta
-    } else if Deadline::OVERFLOW_FALLBACK <= room {
-        base + Deadline::OVERFLOW_FALLBACK
-    } else {
-        u64::MAX
+    match base.checked_add(delta) {
+        Some(deadline) => deadline,
+        None => base.saturating_add(Deadline::OVERFLOW_FALLBACK),
     }
 }

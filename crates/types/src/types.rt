@@ -1,6 +1,6 @@
 // Identifiers.
 ghost use Rattle.std.specs.Prelude.{◌≡◌};
-ghost use Rattle.types.specs.Ids.{from_pb, of_receipt, or_minus_one};
+ghost use Rattle.types.specs.Ids.{from_pb, of_receipt};
 
 // A producer id, which the connection gives out.
 #[derive(Clone, Copy, PartialEq, Eq)]
@@ -30,29 +30,17 @@ pub struct MessageIdData {
     pub batch_size: Option<i32>,
 }
 
-// -1 for what the protocol leaves out.
-fn or_minus_one(v: Option<i32>) -> i32
-    ensures { result ≡ or_minus_one v }
-{
-    match v {
-        None => -1,
-        Some(n) => n,
-    }
-}
-
 impl MessageId {
+    // -1 for what the protocol leaves out.
     pub fn from_pb(pb: MessageIdData) -> MessageId
         ensures { result ≡ from_pb pb }
     {
-        let partition = pb.partition;
-        let batch_index = pb.batch_index;
-        let batch_size = pb.batch_size;
         MessageId {
             ledger_id: pb.ledger_id,
             entry_id: pb.entry_id,
-            partition: or_minus_one(partition),
-            batch_index: or_minus_one(batch_index),
-            batch_size: or_minus_one(batch_size),
+            partition: pb.partition.unwrap_or(-1),
+            batch_index: pb.batch_index.unwrap_or(-1),
+            batch_size: pb.batch_size.unwrap_or(-1),
         }
     }
 
