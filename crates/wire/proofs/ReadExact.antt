@@ -2,17 +2,16 @@
 -- layout. Each reader that answers has passed all its tests, and these leave it the writer's bytes.
 use Rattle.std.specs.Prelude.{Option, Some, None}
 use Prim.Native.Nat.{ℕ, zero, suc, ◌^◌, ◌<◌}
-use mathlib.Core.Path.{◌≡◌, refl, sym, ap, ◌∙◌}
-use mathlib.Core.List.{List, [], ◌∷◌, ◌++◌, append_assoc, append-nil}
-use mathlib.Core.Bool.{Bool, true, false}
+use mathlib.Core.Path.{◌≡◌, refl, ◌∙◌}
+use mathlib.Core.List.{List, [], ◌∷◌, ◌++◌}
+use mathlib.Core.Bool.{Bool}
 use native.Mathlib.Omega.{arith}
 use Rattle.std.proofs.lemmas.Grind.{common_steps}
 use lib.ListN.{length}
 use lib.Dec.{eqb}
-use Rattle.laws.specs.Choice.{pick}
 use Rattle.wire.specs.Proto.{Byte, varint, key, varint_field, bytes_field, bool_number, bool_field, optional, be32}
 use Rattle.wire.specs.Single.{SingleMetadata, single}
-use Rattle.wire.specs.Batch.{Item, metadata, item, items, All}
+use Rattle.wire.specs.Batch.{Item, item, items, All}
 use Rattle.wire.specs.Read.{Got, bind, and_then, whole, cons?, read_varint, read_below, read_count, read_bytes, read_uint64, read_size, read_bool, after_key, read_field, present, read_optional, read_fields, read_single, read_be32, with_payload, read_item, read_items}
 use Rattle.wire.proofs.VarintLaws.{small, large}
 
@@ -21,25 +20,15 @@ use Rattle.wire.proofs.VarintLaws.{small, large}
 pub not_read : {A : Type 0} {x : A} {P : Type 0} → None ≡ Some x → P
 not_read e = let z : ◌≡◌ {A = ℕ} 0 1 = cc in absurd (omega arith)
 
-pub the_same : {A : Type 0} {x y : A} → Some x ≡ Some y → x ≡ y
-the_same e = cc
+pub then_read : {A B P : Type 0} (g : Got A) (f : A → List ℕ → Option B) (y : B) → and_then g f ≡ Some y
+    → ((x : A) (r : List ℕ) → g ≡ Some (x, r) → f x r ≡ Some y → P) → P
+then_read None f y e on = not_read e
+then_read (Some p) f y e on = on p.0 p.1 refl e
 
-pub parts : {A B : Type 0} {x y : A} {r s : B} → ◌≡◌ {A = A × B} (x, r) (y, s) → (x ≡ y) × (r ≡ s)
-parts e = (ap (λ p. p.0) e, ap (λ p. p.1) e)
-
-record Came {A B : Type 0} (g : Got A) (f : A → List ℕ → Option B) (y : B) : Type 0 where
-  pub value : A
-  pub rest : List ℕ
-  pub first : g ≡ Some (value, rest)
-  pub then : f value rest ≡ Some y
-
-came : {A B : Type 0} (g : Got A) (f : A → List ℕ → Option B) (y : B) → and_then g f ≡ Some y → Came g f y
-came None f y e = not_read e
-came (Some p) f y e = record { value = p.0; rest = p.1; first = refl; then = e }
-
-pub chosen : {A : Type 0} (t : Bool) (x y : A) → pick t (Some x) None ≡ Some y → (t ≡ true) × (x ≡ y)
-chosen true x y e = (refl, cc)
-chosen false x y e = not_read e
+pub then_bind : {A B P : Type 0} (o : Option A) (f : A → Option B) (y : B) → bind o f ≡ Some y
+    → ((x : A) → o ≡ Some x → f x ≡ Some y → P) → P
+then_bind None f y e on = not_read e
+then_bind (Some x) f y e on = on x refl e
 
 all_left : (a b : List ℕ) → All Byte (a ++ b) → All Byte a
 all_left [] b h = tt
@@ -78,9 +67,9 @@ number_bool v h = grind (arith, common_steps)
 
 exact_bool : (bs : List ℕ) (b : Bool) (r : List ℕ) → All Byte bs → read_bool bs ≡ Some (b, r) → bs ≡ varint (bool_number b) ++ r
 exact_bool bs b r h e =
-    let c = came (read_below 2 bs) (λ v r. Some (eqb v 1, r)) (b, r) e in
-    let v = exact_below 2 bs c.value c.rest h c.first in
-    grind (arith, number_bool c.value v.1, c.then, v.0)
+    then_read (read_below 2 bs) _ (b, r) e (λ v t g u.
+    let q = exact_below 2 bs v t h g in
+    grind (arith, number_bool v q.1))
 
 -- ── fields ──
 
@@ -91,27 +80,20 @@ exact_key tag wire bs r h e = grind (arith, common_steps, exact_varint)
 module _ {A : Type 0} (tag wire : ℕ) (value : List ℕ → Got A) (field : A → List ℕ)
     (exact : (bs : List ℕ) (x : A) (r : List ℕ) → All Byte bs → value bs ≡ Some (x, r) → key tag wire ++ bs ≡ field x ++ r)
     (bs : List ℕ) (r : List ℕ) (h : All Byte bs) where
-  exact_present : (x : A) (s : List ℕ) → after_key tag wire bs ≡ Some s → value s ≡ Some (x, r) → bs ≡ field x ++ r
-  exact_present x s k e =
-      let q = exact_key tag wire bs s h k in
-      q ∙ exact s x r (follows (key tag wire) s q h) e
-
   exact_field : (x : A) → read_field tag wire value bs ≡ Some (x, r) → bs ≡ field x ++ r
-  exact_field x e = go (after_key tag wire bs) refl e
-    where
-      go : (o : Option (List ℕ)) → after_key tag wire bs ≡ o → bind o value ≡ Some (x, r) → bs ≡ field x ++ r
-      go None k e = not_read e
-      go (Some s) k e = exact_present x s k e
+  exact_field x e =
+      then_bind (after_key tag wire bs) value (x, r) e (λ s k v.
+      let q = exact_key tag wire bs s h k in
+      q ∙ exact s x r (follows (key tag wire) s q h) v)
 
   exact_optional : (x : Option A) → read_optional tag wire value bs ≡ Some (x, r) → bs ≡ optional field x ++ r
   exact_optional x e = go (after_key tag wire bs) refl e
     where
       go : (o : Option (List ℕ)) → after_key tag wire bs ≡ o → present value bs o ≡ Some (x, r) → bs ≡ optional field x ++ r
-      go None k e = let q = parts (the_same e) in rw (← q.0, ← q.1)
+      go None k e = grind arith
       go (Some s) k e =
-          let c = came (value s) (λ x rest. Some (Some x, rest)) (x, r) e in
-          let q = parts (the_same c.then) in
-          rw (← q.0) (exact_present c.value s k (c.first ∙ ap (λ t. Some (c.value, t)) q.1))
+          let q = exact_key tag wire bs s h k in
+          then_read (value s) _ (x, r) e (λ y t g u. grind (arith, exact s y t (follows (key tag wire) s q h) g))
 
 exact_number : (limit tag : ℕ) (bs : List ℕ) (v : ℕ) (r : List ℕ) → All Byte bs → read_below limit bs ≡ Some (v, r)
     → key tag 0 ++ bs ≡ varint_field tag v ++ r
@@ -135,22 +117,18 @@ module _ {A B P : Type 0} (tag wire : ℕ) (value : List ℕ → Got A) (field :
   then_field : (f : A → List ℕ → Option B) → and_then (read_field tag wire value bs) f ≡ Some y
       → ((x : A) (r : List ℕ) → bs ≡ field x ++ r → All Byte r → f x r ≡ Some y → P) → P
   then_field f e on =
-      let c = came (read_field tag wire value bs) f y e in
-      let q = exact_field tag wire value field exact bs c.rest h c.value c.first in
-      on c.value c.rest q (follows (field c.value) c.rest q h) c.then
+      then_read (read_field tag wire value bs) f y e (λ x r g t.
+      let q = exact_field tag wire value field exact bs r h x g in
+      on x r q (follows (field x) r q h) t)
 
   then_optional : (f : Option A → List ℕ → Option B) → and_then (read_optional tag wire value bs) f ≡ Some y
       → ((x : Option A) (r : List ℕ) → bs ≡ optional field x ++ r → All Byte r → f x r ≡ Some y → P) → P
   then_optional f e on =
-      let c = came (read_optional tag wire value bs) f y e in
-      let q = exact_optional tag wire value field exact bs c.rest h c.value c.first in
-      on c.value c.rest q (follows (optional field c.value) c.rest q h) c.then
+      then_read (read_optional tag wire value bs) f y e (λ x r g t.
+      let q = exact_optional tag wire value field exact bs r h x g in
+      on x r q (follows (optional field x) r q h) t)
 
 -- ── single metadata ──
-
-in_a_row : {bs r₁ r₂ r₃ r₄ r₅ : List ℕ} (a b c d e f r : List ℕ) → bs ≡ a ++ r₁ → r₁ ≡ b ++ r₂ → r₂ ≡ c ++ r₃ → r₃ ≡ d ++ r₄
-    → r₄ ≡ e ++ r₅ → r₅ ≡ f ++ r → bs ≡ a ++ b ++ c ++ d ++ e ++ f ++ r
-in_a_row {bs} {r₁} {r₂} {r₃} {r₄} {r₅} a b c d e f r e₁ e₂ e₃ e₄ e₅ e₆ = rw (e₁, e₂, e₃, e₄, e₅, e₆) (simp append_assoc)
 
 exact_fields : (bs : List ℕ) (m : SingleMetadata) (r : List ℕ) → All Byte bs → read_fields bs ≡ Some (m, r)
     → bs ≡ single m ++ r
@@ -162,9 +140,7 @@ exact_fields bs m r h e =
     then_optional 7 2 read_bytes (bytes_field 7) (exact_part 7) r₃ h₃ (m, r) _ t₃ (λ o r₄ e₄ h₄ t₄.
     then_optional 9 0 read_bool (bool_field 9) (exact_mark 9) r₄ h₄ (m, r) _ t₄ (λ n r₅ e₅ h₅ t₅.
     then_optional 10 0 read_bool (bool_field 10) (exact_mark 10) r₅ h₅ (m, r) _ t₅ (λ p r₆ e₆ h₆ t₆.
-    in_a_row (optional (bytes_field 2) k) (varint_field 3 s) (optional (varint_field 5) t) (optional (bytes_field 7) o)
-    (optional (bool_field 9) n) (optional (bool_field 10) p) r₆ e₁ e₂ e₃ e₄ e₅ e₆
-    ∙ ap (λ q. single q.0 ++ q.1) (the_same t₆)))))))
+    grind (arith, common_steps)))))))
 
 pub exact_single : (bs : List ℕ) (m : SingleMetadata) → All Byte bs → read_single bs ≡ Some m → bs ≡ single m
 unfolding read_single
@@ -172,11 +148,7 @@ exact_single bs m h e = go (read_fields bs) refl e
   where
     go : (g : Got SingleMetadata) → read_fields bs ≡ g → whole g ≡ Some m → bs ≡ single m
     go None k e = not_read e
-    go (Some p) k e = last p.0 p.1 k e
-      where
-        last : (n : SingleMetadata) (r : List ℕ) → read_fields bs ≡ Some (n, r) → whole (Some (n, r)) ≡ Some m → bs ≡ single m
-        last n [] k e = exact_fields bs n [] h k ∙ append-nil (single n) ∙ ap single (the_same e)
-        last n (b ∷ r) k e = not_read e
+    go (Some p) k e = let q = exact_fields bs p.0 p.1 h k in grind (arith, common_steps)
 
 -- ── items ──
 
@@ -184,35 +156,11 @@ exact_be32 : (bs : List ℕ) (n : ℕ) (r : List ℕ) → All Byte bs → read_b
 unfolding read_be32 be32
 exact_be32 bs n r h e = grind (arith, common_steps)
 
-pub then_read : {A B P : Type 0} (g : Got A) (f : A → List ℕ → Option B) (y : B) → and_then g f ≡ Some y
-    → ((x : A) (r : List ℕ) → g ≡ Some (x, r) → f x r ≡ Some y → P) → P
-then_read g f y e on = let c = came g f y e in on c.value c.rest c.first c.then
-
-pub then_bind : {A B P : Type 0} (o : Option A) (f : A → Option B) (y : B) → bind o f ≡ Some y
-    → ((x : A) → o ≡ Some x → f x ≡ Some y → P) → P
-then_bind None f y e on = not_read e
-then_bind (Some x) f y e on = on x refl e
-
-same_metadata : (m : SingleMetadata) (payload : List ℕ) → length payload ≡ m.payload_size
-    → metadata (with_payload m payload) ≡ m
-same_metadata m payload e =
-    λ j.
-    record {
-      partition_key = m.partition_key;
-      payload_size = e j;
-      event_time = m.event_time;
-      ordering_key = m.ordering_key;
-      null_value = m.null_value;
-      null_partition_key = m.null_partition_key;
-    }
-
 made : (bs r₁ head r₂ payload r : List ℕ) (n : ℕ) (m : SingleMetadata) → bs ≡ be32 n ++ r₁ → r₁ ≡ head ++ r₂
     → length head ≡ n → head ≡ single m → r₂ ≡ payload ++ r → length payload ≡ m.payload_size
     → bs ≡ item (with_payload m payload) ++ r
 unfolding item
-made bs r₁ head r₂ payload r n m e₁ e₂ l e₃ e₄ s =
-    e₁ ∙ rw (e₂, ← l, e₃, e₄) (simp append_assoc)
-    ∙ ap (λ d. be32 (length (single d)) ++ single d ++ payload ++ r) (sym (same_metadata m payload s))
+made bs r₁ head r₂ payload r n m e₁ e₂ l e₃ e₄ s = grind (arith, common_steps)
 
 pub exact_item : (bs : List ℕ) (i : Item) (r : List ℕ) → All Byte bs → read_item bs ≡ Some (i, r) → bs ≡ item i ++ r
 unfolding read_item
@@ -225,8 +173,8 @@ exact_item bs i r h e =
     let q₂ = exact_count n r₁ head r₂ g₂ in
     let q₄ = exact_count m.payload_size r₂ payload r₃ g₄ in
     let e₃ = exact_single head m (all_left head r₂ (rw q₂.0 at (follows (be32 n) r₁ e₁ h))) g₃ in
-    made bs r₁ head r₂ payload r₃ n m e₁ q₂.0 q₂.1 e₃ q₄.0 q₄.1
-    ∙ ap (λ q. item q.0 ++ q.1) (the_same t₄)))))
+    let z = made bs r₁ head r₂ payload r₃ n m e₁ q₂.0 q₂.1 e₃ q₄.0 q₄.1 in
+    grind arith))))
 
 -- so many items, filling the payload
 pub exact_items : (n : ℕ) (bs : List ℕ) (is : List Item) → All Byte bs → read_items n bs ≡ Some is

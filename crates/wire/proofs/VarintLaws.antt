@@ -2,14 +2,12 @@
 use Prim.Native.Nat.{ℕ, zero, suc, ◌+◌, ◌/◌, ◌%◌, ◌^◌, ◌≤◌, ◌<◌}
 use mathlib.Core.Path.{◌≡◌, refl}
 use mathlib.Core.List.{[], ◌∷◌}
-use mathlib.Core.Bool.{Bool, true, false}
 use native.Mathlib.Omega.{arith}
 use Rattle.std.proofs.lemmas.Grind.{common_steps}
 use native.Mathlib.Nat.{one-le-pow}
 use lib.ListN.{length}
-use lib.Dec.{ltb}
 use lib.IntN.{negsuc}
-use borrow.Author.Tests.{lt-ltb, le-ltb, ltb-true, ltb-false}
+use borrow.Author.Tests.{lt-ltb, le-ltb}
 use Rattle.wire.specs.Proto.{varint_by, varint, extended}
 
 by_small : (n v : ℕ) → v < 128 → varint_by n v ≡ v ∷ []
@@ -20,14 +18,6 @@ by_small (suc n) v h = rw (lt-ltb v 128 h, varint_by)
 by_large : (n v : ℕ) → 128 ≤ v → varint_by (suc n) v ≡ (v % 128 + 128) ∷ varint_by n (v / 128)
 unfolding varint_by
 by_large n v h = rw (le-ltb v 128 h, varint_by)
-
--- a number is below 128 or not
-pub split : {P : Type 0} (v : ℕ) → (v < 128 → P) → (128 ≤ v → P) → P
-split {P} v one more = go (ltb v 128) refl
-  where
-    go : (t : Bool) → ltb v 128 ≡ t → P
-    go true e = one (ltb-true v 128 e)
-    go false e = more (ltb-false v 128 e)
 
 enough : (n m v : ℕ) → v ≤ n → v ≤ m → varint_by n v ≡ varint_by m v
 enough zero m v h k = grind (arith, by_small)

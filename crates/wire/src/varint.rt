@@ -1,4 +1,4 @@
-// Base-128 varints, one writer for 32 and 64 bits.
+// Base-128 varints, one writer for 32 and 64 bits. The loops are no `for`: only their end shows how many bytes there are.
 ghost use Rattle.std.specs.Prelude.{◌≡◌, ◌+◌, ◌≤◌, length};
 ghost use Rattle.wire.specs.Proto.{varint};
 ghost use Rattle.wire.specs.Buffer.{Puts};
@@ -10,7 +10,7 @@ pub fn varint_len(v: u64) -> usize
     let mut rest = v;
     let mut n = 1;
     while 128 <= rest {
-        rest = rest / 128;
+        rest /= 128;
         n += 1;
     }
     n
@@ -24,7 +24,7 @@ pub fn put_varint(out: &mut [u8], at: usize, v: u64) -> usize
     let mut i = at;
     while 128 <= rest {
         out[i] = (rest % 128 + 128) as u8;
-        rest = rest / 128;
+        rest /= 128;
         i += 1;
     }
     out[i] = rest as u8;
