@@ -39,7 +39,7 @@ impl ProducerState {
         let settings = c.settings;
         let delays = settings.delays;
         let timeout = delays.send_timeout;
-        let count = gone_count(entries, n, timeout, due);
+        let count = gone_count(&entries[..n], timeout, due);
         fitted(count, room)
     }
 
@@ -58,7 +58,7 @@ impl ProducerState {
             let core = after_drain(c, due, p.count);
             let ids = self.pending_ids;
             let before = self.pending_marks;
-            let marks = unmark_each(before, ids, entries, p.count);
+            let marks = unmark_each(before, ids, &entries[..p.count]);
             self.core = core;
             self.pending_marks = marks;
             CountAnswer {
@@ -74,7 +74,7 @@ impl ProducerState {
     {
         let entries = self.entries();
         let p = self.plan_drain(due, entries, table.len());
-        copy_entries(table, entries, p.write);
+        copy_entries(table, &entries[..p.write]);
         self.drained(due, entries, p)
     }
 
@@ -161,8 +161,8 @@ impl ProducerState {
         let batched = self.entries_of_kind(true);
         let framed = self.entries_of_kind(false);
         let p = self.plan_snapshot(dropped.len(), replay.len());
-        copy_entries(dropped, batched, p.dropped_write);
-        copy_entries(replay, framed, p.replay_write);
+        copy_entries(dropped, &batched[..p.dropped_write]);
+        copy_entries(replay, &framed[..p.replay_write]);
         self.snapshotted(p)
     }
 }

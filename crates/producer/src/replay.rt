@@ -109,11 +109,11 @@ impl ProducerState {
         let m = at_most(self.core.rings.outbound.len, 1024);
         let ops = self.entries();
         let ids = self.waiting_ids();
-        let left = unborne(&ids, m, ops, n);
+        let left = unborne(&ids[..m], ops, n);
         let entries = left.entries;
         let len = left.len;
         let c = self.core;
-        let answer = c.replay_count(frames_for(entries, len));
+        let answer = c.replay_count(frames_for(&entries[..len]));
         match answer {
             Ok(_) => {
                 let s = self.front_frames(entries, len);
@@ -136,7 +136,7 @@ impl ProducerState {
     {
         let len = at_most(n, 256);
         let c = self.core;
-        let answer = c.replay_answer(well_formed, n, frames_for(table, len));
+        let answer = c.replay_answer(well_formed, n, frames_for(&table[..len]));
         match answer {
             Ok(()) => {
                 let marked = self.mark_all();
