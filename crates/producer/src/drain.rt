@@ -31,7 +31,7 @@ impl ProducerState {
         ensures { result ≡ plan_of due entries room self.now }
     {
         let n = self.core.rings.pending.len.min(Rings::PENDING);
-        let count = gone_count(entries, n, self.core.settings.delays.send_timeout, due);
+        let count = gone_count(&entries[..n], self.core.settings.delays.send_timeout, due);
         fitted(count, room)
     }
 
@@ -41,11 +41,11 @@ impl ProducerState {
     {
         let entries = self.entries();
         let count = self.plan_drain(due, entries, table.len())?;
-        copy_entries(table, entries, count);
+        copy_entries(table, &entries[..count]);
         self.core = after_drain(self.core, due, count);
         let ids = self.pending_ids;
         let marks = self.pending_marks;
-        let left = unmark_each(marks, ids, entries, count);
+        let left = unmark_each(marks, ids, &entries[..count]);
         self.pending_marks = left;
         Ok(count)
     }
@@ -118,8 +118,8 @@ impl ProducerState {
         let counts = self.plan_snapshot(dropped.len(), replay.len())?;
         let batched = self.entries_of_kind(true);
         let framed = self.entries_of_kind(false);
-        copy_entries(dropped, batched, counts.dropped);
-        copy_entries(replay, framed, counts.replay);
+        copy_entries(dropped, &batched[..counts.dropped]);
+        copy_entries(replay, &framed[..counts.replay]);
         self.core = after_snapshot(self.core, counts.dropped);
         Ok(counts)
     }

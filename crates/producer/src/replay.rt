@@ -76,9 +76,9 @@ impl ProducerState {
         let m = self.core.rings.outbound.len.min(Rings::OUTBOUND);
         let ops = self.entries();
         let ids = self.waiting_ids();
-        let left = unborne(&ids, m, ops, n);
+        let left = unborne(&ids[..m], ops, n);
         let entries = left.entries;
-        let count = self.core.replay_count(frames_for(entries, left.len))?;
+        let count = self.core.replay_count(frames_for(&entries[..left.len]))?;
         self.front_frames(entries, left.len);
         Ok(count)
     }
@@ -108,7 +108,7 @@ impl ProducerState {
     {
         let len = n.min(Rings::PENDING);
         self.core
-            .replay_answer(well_formed, n, frames_for(table, len))?;
+            .replay_answer(well_formed, n, frames_for(&table[..len]))?;
         self.mark_all();
         self.front_entries(table, len);
         self.front_frames(table, len);

@@ -1,4 +1,3 @@
 pub mod Blank
-pub mod Loaded
-pub mod Sums
+pub mod Chains
 pub mod Turns

@@ -1,56 +1,12 @@
 -- The loops over entries: for each an invariant, that says what is left to do, with how it begins, goes on and ends. Assumes nothing.
-use Rattle.std.specs.Prelude.{None, Option, Some, ℕ}
-use Rattle.std.proofs.Common.{◌≡◌, ℕ, zero, suc, ◌+◌, ◌<◌, ◌≤◌, Bool, true, false, not, List, [], ◌∷◌, ◌++◌, length, get_or, take, drop, set, sym, refl, ap, ◌∙◌, append-nil, zero-le, add-one, arith, length-set, drop_of_length-le, length-take-le, drop-cons, get_or-take, take-suc-set}
+use Rattle.std.proofs.Common.{◌≡◌, ℕ, zero, suc, ◌+◌, ◌<◌, ◌≤◌, Bool, true, false, not, List, [], ◌∷◌, ◌++◌, length, get_or, take, drop, set, sym, refl, ap, ◌∙◌, append-nil, zero-le, add-one, arith, length-set, drop_of_length-le, length-take-le, drop-cons, take-suc-set}
 use lib.Seq.{append_snoc}
 use Rattle.laws.specs.Choice.{pick}
 use Rattle.types.specs.declared.entry.OpSend.{OpSend}
-use Rattle.queue.specs.Ids.{after, elapsed}
-use Rattle.queue.specs.Settle.{due_count}
 use Rattle.queue.specs.Tables.{is_batched, framed_of}
-use Rattle.upkeep.specs.Deadline.{maybe_after, has_elapsed}
 use Rattle.upkeep.specs.Pending.{cleared_all}
-use Rattle.tables.specs.Drain.{is_due, cleared_each}
+use Rattle.tables.specs.Drain.{cleared_each}
 use Rattle.tables.specs.Picked.{same_as, kind_of}
-
--- the i-th of the first n
-pub front_at : {A : Type 0} (es : List A) (n i : ℕ) (d : A) → i < n → get_or (take n es) i d ≡ get_or es i d
-front_at es n i d h = get_or-take n es i d h
-
--- the deadline of the code is that of the definitions
-pub due_is : (timeout : Option ℕ) (time sent : ℕ) → has_elapsed time (maybe_after timeout sent) ≡ elapsed time (after timeout sent)
-due_is None time sent = refl
-due_is (Some d) time sent = refl
-
--- ── due entries: all up to i are ──
-
-pub record Due (time : ℕ) (timeout : Option ℕ) (l : List OpSend) (i : ℕ) : Type 0 where
-  pub low : i ≤ length l
-  pub left : i + due_count time timeout (drop i l) ≡ due_count time timeout l
-
-module _ (time : ℕ) (timeout : Option ℕ) (l : List OpSend) where
-  pub due_start : Due time timeout l 0
-  due_start = record { low = zero-le; left = omega arith }
-
-  module _ (i : ℕ) (k : Due time timeout l i) where
-    next_due : (d : OpSend) (b : Bool) → i < length l → is_due time timeout (get_or l i d) ≡ b
-        → due_count time timeout (drop i l) ≡ pick b (suc (due_count time timeout (drop (suc i) l))) 0
-    next_due d b h e =
-        ap (due_count time timeout) (drop-cons l i d h)
-        ∙ ap (λ (t : Bool). pick t (suc (due_count time timeout (drop (suc i) l))) 0) e
-
-    pub due_step : (d : OpSend) → i < length l → is_due time timeout (get_or l i d) ≡ true → Due time timeout l (i + 1)
-    due_step d h e =
-        let n : due_count time timeout (drop i l) ≡ suc (due_count time timeout (drop (suc i) l)) = next_due d true h e in
-        let m : due_count time timeout (drop (i + 1) l) ≡ due_count time timeout (drop (suc i) l) =
-        ap (λ (j : ℕ). due_count time timeout (drop j l)) (add-one i) in
-        record { low = omega arith; left = omega (arith, k.left) }
-
-    pub due_stop : (d : OpSend) → i < length l → is_due time timeout (get_or l i d) ≡ false → i ≡ due_count time timeout l
-    due_stop d h e = let n : due_count time timeout (drop i l) ≡ 0 = next_due d false h e in omega (arith, k.left)
-
-    pub due_end : length l ≤ i → i ≡ due_count time timeout l
-    due_end h =
-        let n : due_count time timeout (drop i l) ≡ 0 = ap (due_count time timeout) (drop_of_length-le l h) in omega (arith, k.left)
 
 -- ── ids that leave the index: those up to i have ──
 

@@ -1,6 +1,5 @@
 // Which entries a drain hands out, and what it leaves of the index.
-ghost use Rattle.std.specs.Prelude.{◌≡◌, ◌≤◌, take};
-ghost use Rattle.queue.specs.Settle.{due_count};
+ghost use Rattle.std.specs.Prelude.{◌≡◌, length, take_while};
 ghost use Rattle.tables.specs.Drain.{cleared_each, gone_count, handout_of, is_due};
 
 use types::entry::OpSend;
@@ -22,55 +21,37 @@ pub fn fitted(count: usize, room: usize) -> Result<usize, ProducerError>
 fn is_due(op: OpSend, timeout: Option<u64>, time: u64) -> bool
     ensures { result ≡ is_due time timeout op }
 {
-    let publish = op.publish;
-    let deadline = after(timeout, publish.enqueued_at);
-    elapsed(time, deadline)
+    elapsed(time, after(timeout, op.publish.enqueued_at))
 }
 
-// How many of the first n entries are due, from the front: it stops at the first that has time left, even if a later one is
-// due ('ids and clocks').
-pub fn due_count(entries: [OpSend; 256], n: usize, timeout: Option<u64>, time: u64) -> usize
-    requires { n ≤ 256 }
-    ensures { result ≡ due_count time timeout (take n entries) }
+// How many of the entries are due, from the front: it stops at the first that has time left, even if a later one is due ('ids
+// and clocks').
+fn due_count(entries: &[OpSend], timeout: Option<u64>, time: u64) -> usize
+    ensures { result ≡ length (take_while (is_due time timeout) entries.now) }
 {
-    let mut i: usize = 0;
-    let r = loop {
-        if n <= i {
-            break i;
-        }
-        let op = entries[i];
-        if is_due(op, timeout, time) {
-            i += 1;
-        } else {
-            break i;
-        }
-    };
-    r
+    entries
+        .iter()
+        .take_while(|op| is_due(**op, timeout, time))
+        .count()
 }
 
-// How many of the first n entries a drain hands out: those that are due at a time, or all.
-pub fn gone_count(entries: [OpSend; 256], n: usize, timeout: Option<u64>, due: Option<u64>) -> usize
-    requires { n ≤ 256 }
-    ensures { result ≡ gone_count due timeout (take n entries) }
+// How many of the entries a drain hands out: those that are due at a time, or all.
+#[tactic(auto, using(crate::proofs::Chains::due_while))]
+pub fn gone_count(entries: &[OpSend], timeout: Option<u64>, due: Option<u64>) -> usize
+    ensures { result ≡ gone_count due timeout entries.now }
 {
     match due {
-        None => n,
-        Some(time) => due_count(entries, n, timeout, time),
+        None => entries.len(),
+        Some(time) => due_count(entries, timeout, time),
     }
 }
 
-// The marks once the ids of the first n entries have left the index.
-pub fn unmark_each(marks: [u8; 256], ids: [u64; 256], entries: [OpSend; 256], n: usize) -> [u8; 256]
-    requires { n ≤ 256 }
-    ensures { result ≡ cleared_each (take n entries) ids marks }
+// The marks once the ids of the entries have left the index.
+pub fn unmark_each(mut marks: [u8; 256], ids: [u64; 256], gone: &[OpSend]) -> [u8; 256]
+    ensures { result ≡ cleared_each gone.now ids marks }
 {
-    let mut left = marks;
-    let mut i: usize = 0;
-    while i < n {
-        let op = entries[i];
-        let sequence_id = op.sequence_id;
-        unmark(&mut left, ids, sequence_id.0);
-        i += 1;
+    for op in gone {
+        unmark(&mut marks, ids, op.sequence_id.0);
     }
-    left
+    marks
 }

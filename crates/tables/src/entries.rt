@@ -11,14 +11,7 @@ use types::frame::{ChunkedMessageContext, FrameKind, FrameRecord};
 pub fn is_batched(replay: Replay) -> bool
     ensures { result ≡ is_batched replay }
 {
-    match replay {
-        Replay::Batched => true,
-        Replay::Single => false,
-        Replay::Chunked {
-            total_chunks: _,
-            max_chunk_size: _,
-        } => false,
-    }
+    matches!(replay, Replay::Batched)
 }
 
 // How many frames a replay pushes.
@@ -28,10 +21,7 @@ pub fn frames_of(replay: Replay) -> usize
     match replay {
         Replay::Batched => 0,
         Replay::Single => 1,
-        Replay::Chunked {
-            total_chunks,
-            max_chunk_size: _,
-        } => total_chunks as usize,
+        Replay::Chunked { total_chunks, .. } => total_chunks as usize,
     }
 }
 
@@ -40,15 +30,14 @@ pub fn kind_again(replay: Replay) -> FrameKind
     ensures { result ≡ kind_again replay }
 {
     match replay {
-        Replay::Batched => FrameKind::Single,
-        Replay::Single => FrameKind::Single,
+        Replay::Batched | Replay::Single => FrameKind::Single,
         Replay::Chunked {
             total_chunks,
             max_chunk_size,
         } => FrameKind::Chunked(ChunkedMessageContext {
-            total_chunks: total_chunks,
+            total_chunks,
             next_chunk: 0,
-            max_chunk_size: max_chunk_size,
+            max_chunk_size,
         }),
     }
 }
@@ -58,19 +47,14 @@ pub fn again(op: OpSend) -> FrameRecord
     ensures { result ≡ again op }
 {
     let publish = op.publish;
-    let sequence_id = op.sequence_id;
-    let producer_name = publish.producer_name;
     let uuid = publish.uuid;
-    let message = publish.message;
-    let replay = publish.replay;
-    let kind = kind_again(replay);
     FrameRecord {
-        sequence_id: sequence_id,
+        sequence_id: op.sequence_id,
         publish_time: publish.publish_time,
-        producer_name: producer_name,
-        uuid: uuid,
-        message: message,
-        kind: kind,
+        producer_name: publish.producer_name,
+        uuid,
+        message: publish.message,
+        kind: kind_again(publish.replay),
     }
 }
 
@@ -79,18 +63,15 @@ pub fn well_formed(op: OpSend) -> bool
     ensures { result ≡ well_formed_as op op.publish.replay }
 {
     let publish = op.publish;
-    let message = publish.message;
-    let reservation = publish.reservation;
-    let replay = publish.replay;
-    match replay {
-        Replay::Batched => reservation.within_bound(),
-        Replay::Single => within_bounds(message, reservation),
+    match publish.replay {
+        Replay::Batched => publish.reservation.within_bound(),
+        Replay::Single => within_bounds(publish.message, publish.reservation),
         Replay::Chunked {
             total_chunks,
             max_chunk_size,
         } => {
-            let count = compute_total_chunks(message.payload.len, max_chunk_size as usize);
-            within_bounds(message, reservation) & (total_chunks == count)
+            let count = compute_total_chunks(publish.message.payload.len, max_chunk_size as usize);
+            within_bounds(publish.message, publish.reservation) && total_chunks == count
         }
     }
 }

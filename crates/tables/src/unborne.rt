@@ -6,44 +6,24 @@ ghost use Rattle.tables.specs.Unborne.{borne_by, free};
 use crate::pick::Picks;
 use types::entry::OpSend;
 
-// Whether one of the first m ids is this one.
-fn is_borne(ids: &[u64; 1024], m: usize, id: u64) -> bool
-    requires { (length ids.now ≡ 1024) × (m ≤ 1024) }
-    ensures { result ≡ borne_by id (take m ids.now) }
+fn is_borne(ids: &[u64], id: u64) -> bool
+    ensures { result ≡ borne_by id ids.now }
 {
-    let mut i: usize = 0;
-    let r = loop {
-        if m <= i {
-            break false;
-        }
-        let x = ids[i];
-        if x == id {
-            break true;
-        }
-        i += 1;
-    };
-    r
+    ids.contains(&id)
 }
 
-// Of the first n entries, in order, those whose id is none of the first m.
-pub fn unborne(ids: &[u64; 1024], m: usize, ops: [OpSend; 256], n: usize) -> Picks
-    requires { (length ids.now ≡ 1024) × (m ≤ 1024) × (n ≤ 256) }
-    ensures { (take result.len result.entries ≡ keeping (free (take m ids.now)) (take n ops)) × (result.len ≤ 256) }
+// Of the first n entries, in order, those whose id is none of the ids.
+pub fn unborne(ids: &[u64], ops: [OpSend; 256], n: usize) -> Picks
+    requires { n ≤ 256 }
+    ensures { (take result.len result.entries ≡ keeping (free ids.now) (take n ops)) × (result.len ≤ 256) }
 {
     let mut entries = ops;
-    let mut len: usize = 0;
-    let mut i: usize = 0;
-    while i < n {
-        let op = ops[i];
-        let id = op.sequence_id;
-        if !is_borne(ids, m, id.0) {
-            entries[len] = op;
+    let mut len = 0;
+    for i in 0..n {
+        if !is_borne(ids, ops[i].sequence_id.0) {
+            entries[len] = ops[i];
             len += 1;
         }
-        i += 1;
     }
-    Picks {
-        entries: entries,
-        len: len,
-    }
+    Picks { entries, len }
 }

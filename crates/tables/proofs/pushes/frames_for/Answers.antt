@@ -1,22 +1,9 @@
--- `tables::pushes::frames_for`: the sum so far and the frames still to come are those of all entries.
-use Rattle.std.proofs.Common.{ℕ, ◌+◌, ◌≤◌, length, sym, ap, ◌∙◌, subst, arith}
-use Rattle.laws.specs.Numbers.{add_sat}
-use Rattle.tables.proofs.Sums.{Added, added_step, added_end}
+-- `tables::pushes::frames_for`: the chain is the definition.
+use Rattle.std.proofs.Common.{◌≡◌, ◌∙◌, rules, lit<}
+use Rattle.std.specs.List.{fold}
+use Rattle.tables.proofs.Chains.{plus, added}
 use Rattle.tables.proofs.pushes.frames_for.Goals as goal
-
-pub loop-i-preserved : goal.loop-i-preserved
-loop-i-preserved c =
-    let a = c.args in
-    let k = c.loop-i in
-    let e = c.saturating_add-sum.ensures ∙ ap (add_sat k.sum) c.frames_of-frames.ensures in (
-      omega arith,
-      omega (arith, c.saturating_add-sum.ensures),
-      λ b. subst (λ (x : ℕ). Added a.ops a.n b x (k.i + 1)) (sym e) (added_step a.ops a.n b k.sum k.i _ (k.invariant.2 b) (omega arith)),
-    )
 
 pub returns : goal.returns
 returns c =
-    let a = c.args in
-    let k = c.loop-i in
-    let b : a.n ≤ length a.ops = omega arith in
-    added_end a.ops a.n b k.sum k.i (k.invariant.2 b) (omega arith) (omega arith)
+    let l = c.args.ops.now in let e : c.fold.result ≡ fold plus 0 l = search rules in e ∙ added 0 l (lit< tt)

@@ -1,11 +1,7 @@
 -- `tables::unborne::unborne`: those gathered and what the rest has to give are those of all entries.
-use Rattle.std.proofs.Common.{◌-◌, take}
 use Rattle.laws.proofs.Gathers.{Keeping}
 use Rattle.tables.specs.Unborne.{free}
 use Rattle.tables.proofs.unborne.unborne.Given as goal
 
 abbrev pub invariant-loop-i : goal.invariant-loop-i
-invariant-loop-i l = Keeping 256 (free (take l.m l.ids)) l.ops l.n l.entries l.len l.i
-
-abbrev pub decreases-loop-i : goal.decreases-loop-i
-decreases-loop-i l = l.n - l.i
+invariant-loop-i l = Keeping 256 (free l.ids) l.ops l.n l.entries l.len l.i
