@@ -13,32 +13,15 @@ mod send;
 mod show;
 mod story;
 mod take;
+mod tour;
 mod words;
 
 use std::io;
-use take::Taken;
-
-fn tour(out: &impl Print, store: &[u8]) -> io::Result<()> {
-    story::introduce(out)?;
-    let mut state = story::tariff();
-    println!(out; "\nSends")?;
-    send::send_all(out, &mut state, store)?;
-    send::send_too_long(out, &mut state, store)?;
-    send::flush(out, &mut state)?;
-    println!(out; "\nFrames")?;
-    let mut taken = Taken::none();
-    take::take_all(out, &mut state, store, &mut taken)?;
-    println!(out; "\nReceipts")?;
-    receipts::apply_all(out, &mut state)?;
-    println!(out; "\nCounters")?;
-    receipts::counters(out, &state)?;
-    println!(out; "\nMessages read back from the frames")?;
-    compare::compare(out, store, &taken)
-}
+use tour::Tour;
 
 // The store: rows of 32 bytes, of which the last, the rate table, is longer.
 fn main(rt: HostRuntime) -> io::Result<()> {
-    tour(
+    let mut tour = Tour::new(
         &rt,
         b"north   quote 41: 12.50 EUR     \
           south   quote 42: 9.80 EUR      \
@@ -47,5 +30,6 @@ fn main(rt: HostRuntime) -> io::Result<()> {
           -       quote 40 closed         \
           rates   zone A 1 kg 4.20 5 kg 6.90; zone B 1 kg 5.10 5 kg 7.80; \
           zone C 1 kg 6.30 5 kg 9.40; zone D 1 kg 8.00 5 kg 9.95",
-    )
+    );
+    tour.run()
 }

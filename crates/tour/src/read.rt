@@ -51,22 +51,17 @@ impl<'a> Reader<'a> {
             (None, None) => self.single(f),
         }
     }
-
-    fn all(&mut self, frames: &List<Frame, 16>) -> Option<()> {
-        for f in frames.places().iter().flatten() {
-            self.frame(f)?;
-        }
-        self.chunks.is_none().then_some(())
-    }
 }
 
-// The messages up to the first frame that has no reading, and whether all have one.
-pub fn read_all(taken: &Taken) -> (List<Message<'_>, 16>, bool) {
+// None where a frame has no reading, or a chunk is missing.
+pub fn read_all(taken: &Taken) -> Option<List<Message<'_>, 16>> {
     let mut reader = Reader {
         bytes: &taken.bytes,
         messages: List::empty(),
         chunks: None,
     };
-    let all = reader.all(&taken.frames).is_some();
-    (reader.messages, all)
+    for f in taken.frames.iter() {
+        reader.frame(f)?;
+    }
+    reader.chunks.is_none().then_some(reader.messages)
 }

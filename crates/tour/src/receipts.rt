@@ -1,10 +1,10 @@
 // Receipts come back (document 01, 'receipts, errors, snapshot, replay').
-use crate::send::{pending, say_standing};
-use crate::words::Refused;
-use producer::state::ProducerState;
+use crate::tour::Tour;
+use crate::words::Answered;
+use std::fmt::{self, Display, Formatter};
 use std::io;
 use types::command::CommandSendReceipt;
-use types::types::{MessageIdData, ProducerHandle, SequenceId};
+use types::types::{MessageId, MessageIdData, ProducerHandle, SequenceId};
 
 // The broker has stored the message under that id as this entry of ledger 9.
 fn receipt(id: u64, entry_id: u64) -> CommandSendReceipt {
@@ -21,47 +21,55 @@ fn receipt(id: u64, entry_id: u64) -> CommandSendReceipt {
     }
 }
 
-fn apply(out: &impl Print, s: &mut ProducerState, id: u64, entry_id: u64) -> io::Result<()> {
-    let r = s.apply_receipt(receipt(id, entry_id));
-    *s = r.state;
-    print!(out; "receipt for id {id}: ")?;
-    match r.answer {
-        Ok(()) => {
-            let stored = r.message_id;
-            print!(out;
-                "settled, stored as {}:{}",
-                stored.ledger_id, stored.entry_id
-            )?;
+#[derive(Clone, Copy)]
+struct Settled(MessageId);
+
+impl Display for Settled {
+    fn fmt<W: fmt::Write>(&self, f: &mut Formatter<W>) -> fmt::Result {
+        write!(
+            f,
+            "settled, stored as {}:{}",
+            self.0.ledger_id, self.0.entry_id
+        )
+    }
+}
+
+impl<P: Print> Tour<'_, P> {
+    fn apply(&mut self, id: u64, entry_id: u64) -> io::Result<()> {
+        let r = self.state.apply_receipt(receipt(id, entry_id));
+        self.state = r.state;
+        let answer = Answered(r.answer.map(|_| Settled(r.message_id)));
+        let published = self.state.core.ids.last_sequence_id_published;
+        println!(self.out;
+            "receipt for id {id}: {answer}; published number {published}, {} pending",
+            self.pending()
+        )
+    }
+
+    // One receipt settles one entry, also of a batch. That for 5 comes before that for 4, and nothing was sent under 9.
+    pub fn apply_all(&mut self) -> io::Result<()> {
+        for (id, entry_id) in [
+            (1, 0),
+            (2, 0),
+            (3, 0),
+            (5, 4),
+            (4, 3),
+            (9, 5),
+            (6, 5),
+            (7, 5),
+        ] {
+            self.apply(id, entry_id)?;
         }
-        Err(e) => print!(out; "{}", Refused(e))?,
+        Ok(())
     }
-    let published = s.core.ids.last_sequence_id_published;
-    println!(out; "; published number {published}, {} pending", pending(s))
-}
 
-// One receipt settles one entry, also of a batch. That for 5 comes before that for 4, and nothing was sent under 9.
-pub fn apply_all(out: &impl Print, s: &mut ProducerState) -> io::Result<()> {
-    for (id, entry_id) in [
-        (1, 0),
-        (2, 0),
-        (3, 0),
-        (5, 4),
-        (4, 3),
-        (9, 5),
-        (6, 5),
-        (7, 5),
-    ] {
-        apply(out, s, id, entry_id)?;
+    // Each chunk counts as a message; of a batch the whole payload counts, headers included. No receipt is counted.
+    pub fn counters(&self) -> io::Result<()> {
+        let c = self.state.stats().counters;
+        println!(self.out;
+            "sent {} messages, each chunk counted, in {} payload bytes; {} failed",
+            c.total_msgs_sent, c.total_bytes_sent, c.total_send_failed
+        )?;
+        self.say_standing()
     }
-    Ok(())
-}
-
-// Each chunk counts as a message; of a batch the whole payload counts, headers included. No receipt is counted.
-pub fn counters(out: &impl Print, s: &ProducerState) -> io::Result<()> {
-    let c = s.stats().counters;
-    println!(out;
-        "sent {} messages, each chunk counted, in {} payload bytes; {} failed",
-        c.total_msgs_sent, c.total_bytes_sent, c.total_send_failed,
-    )?;
-    say_standing(out, s)
 }

@@ -47,23 +47,27 @@ pub fn frame(out: &impl Print, place: usize, f: &OutboundFrame, payload: &[u8]) 
         Given(", transaction ", m.txn_id.map(Txn))
     )?;
     print!(out;
-        ", payload {}{} bytes",
+        ", payload {}{} bytes{}",
         f.payload_len,
-        Given(" of ", m.total_chunk_msg_size)
+        Given(" of ", m.total_chunk_msg_size),
+        Given(", uuid ", m.uuid.as_ref().map(|u| Printed(u)))
     )?;
-    if let Some(uuid) = &m.uuid {
-        print!(out; ", uuid {}", Printed(uuid))?;
-    }
     println!(out; "\n    \"{}\"", Printed(payload))
 }
 
 pub fn message(out: &impl Print, id: u64, m: &Message) -> io::Result<()> {
-    print!(out; "message {id}: {}", bytes(m.payload.len()))?;
-    print!(out; "{}", Given(", key ", m.partition_key.map(Printed)))?;
-    print!(out; "{}", Mark(", null key", m.null_partition_key))?;
-    print!(out; "{}", Given(", ordering key ", m.ordering_key.map(Printed)))?;
-    print!(out; "{}", Given(", event time ", m.event_time))?;
-    print!(out; "{}", Mark(", null value", m.null_value))?;
-    print!(out; "{}", Given(", transaction ", m.txn_id.map(Txn)))?;
-    println!(out; " \"{}\"", Printed(m.payload))
+    print!(out;
+        "message {id}: {}{}{}{}",
+        bytes(m.payload.len()),
+        Given(", key ", m.partition_key.map(Printed)),
+        Mark(", null key", m.null_partition_key),
+        Given(", ordering key ", m.ordering_key.map(Printed))
+    )?;
+    println!(out;
+        "{}{}{} \"{}\"",
+        Given(", event time ", m.event_time),
+        Mark(", null value", m.null_value),
+        Given(", transaction ", m.txn_id.map(Txn)),
+        Printed(m.payload)
+    )
 }

@@ -18,8 +18,9 @@ pub const BATCH_LIMIT: usize = 100;
 
 // A producer that batches and chunks, whose first sequence id is 1.
 pub fn tariff() -> ProducerState {
-    let mut s = ProducerState::new(ProducerHandle(7));
-    s = s.set_name(b"tariff").state;
+    let mut s = ProducerState::new(ProducerHandle(7))
+        .set_name(b"tariff")
+        .state;
     for setting in [
         Setting::BatchingEnabled(true),
         Setting::ChunkingEnabled(true),

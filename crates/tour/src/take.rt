@@ -3,8 +3,8 @@ use crate::frame::Frame;
 use crate::list::List;
 use crate::message::bytes_at;
 use crate::show;
+use crate::tour::Tour;
 use crate::words::Refused;
-use producer::state::ProducerState;
 use std::io;
 use types::message::Part;
 use types::outbound::OutboundFrame;
@@ -49,8 +49,8 @@ impl Taken {
         Some(part)
     }
 
-    // A frame more, whose payload is in the bytes already. None where there is no room.
-    fn keep(&mut self, store: &[u8], f: &OutboundFrame) -> Option<()> {
+    // A frame more, whose payload is in the bytes already. What finds no room is left out.
+    fn keep(&mut self, store: &[u8], f: &OutboundFrame) {
         let payload = Part {
             start: self.payloads,
             len: f.payload_len,
@@ -64,42 +64,38 @@ impl Taken {
             .ordering_key
             .and_then(|p| self.put(bytes_at(store, p)));
         self.payloads = self.payloads.saturating_add(f.payload_len);
-        self.frames.push(Frame::of(&f.metadata, payload, partition_key, ordering_key))
+        let frame = Frame::of(&f.metadata, payload, partition_key, ordering_key);
+        self.frames.push(frame);
     }
 }
 
-// Shows a frame taken, and keeps it; or shows the refusal.
-fn take(
-    out: &impl Print,
-    s: &mut ProducerState,
-    store: &[u8],
-    taken: &mut Taken,
-) -> io::Result<()> {
-    let r = s.next_outbound_frame(store, taken.room());
-    *s = r.state;
-    match r.answer {
-        Ok(()) => {
-            let f = &r.frame;
-            let payload = Part {
-                start: taken.payloads,
-                len: f.payload_len,
-            };
-            taken.keep(store, f);
-            show::frame(out, taken.frames.len(), f, bytes_at(&taken.bytes, payload))
+impl<P: Print> Tour<'_, P> {
+    // Shows the frame taken, and keeps it; or shows the refusal.
+    fn take(&mut self) -> io::Result<()> {
+        let r = self
+            .state
+            .next_outbound_frame(self.store, self.taken.room());
+        self.state = r.state;
+        match r.answer {
+            Ok(()) => {
+                let f = &r.frame;
+                let payload = Part {
+                    start: self.taken.payloads,
+                    len: f.payload_len,
+                };
+                self.taken.keep(self.store, f);
+                let place = self.taken.frames.len();
+                show::frame(self.out, place, f, bytes_at(&self.taken.bytes, payload))
+            }
+            Err(e) => println!(self.out; "one more take: {}", Refused(e)),
         }
-        Err(e) => println!(out; "one more take: {}", Refused(e)),
     }
-}
 
-// Every frame that waits, and a take more, which is refused.
-pub fn take_all(
-    out: &impl Print,
-    s: &mut ProducerState,
-    store: &[u8],
-    taken: &mut Taken,
-) -> io::Result<()> {
-    for _ in 0..=s.outbound_len() {
-        take(out, s, store, taken)?;
+    // Every frame that waits, and a take more, which is refused.
+    pub fn take_all(&mut self) -> io::Result<()> {
+        for _ in 0..=self.state.outbound_len() {
+            self.take()?;
+        }
+        Ok(())
     }
-    Ok(())
 }

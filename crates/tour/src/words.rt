@@ -3,50 +3,30 @@ use std::fmt::{self, Display, Formatter};
 use types::error::ProducerError;
 use types::txn::TxnId;
 
-// A number and what it counts.
+// A number and what it counts: one, or more.
 #[derive(Clone, Copy)]
-pub struct Count {
-    pub n: u64,
-    pub one: &'static str,
-    pub more: &'static str,
-}
+pub struct Count(u64, &'static str, &'static str);
 
 pub fn frames(n: usize) -> Count {
-    Count {
-        n: n as u64,
-        one: "frame",
-        more: "frames",
-    }
+    Count(n as u64, "frame", "frames")
 }
 
 pub fn messages(n: u64) -> Count {
-    Count {
-        n,
-        one: "message",
-        more: "messages",
-    }
+    Count(n, "message", "messages")
 }
 
 pub fn bytes(n: usize) -> Count {
-    Count {
-        n: n as u64,
-        one: "byte",
-        more: "bytes",
-    }
+    Count(n as u64, "byte", "bytes")
 }
 
 pub fn entries(n: u64) -> Count {
-    Count {
-        n,
-        one: "entry",
-        more: "entries",
-    }
+    Count(n, "entry", "entries")
 }
 
 impl Display for Count {
     fn fmt<W: fmt::Write>(&self, f: &mut Formatter<W>) -> fmt::Result {
-        let what = if self.n == 1 { self.one } else { self.more };
-        write!(f, "{} {what}", self.n)
+        let what = if self.0 == 1 { self.1 } else { self.2 };
+        write!(f, "{} {what}", self.0)
     }
 }
 
@@ -101,10 +81,10 @@ impl Display for Txn {
     }
 }
 
-// Document 01, 'Who can cause a refusal'.
 #[derive(Clone, Copy)]
 pub struct Refused(pub ProducerError);
 
+// Document 01, 'Who can cause a refusal'.
 impl Display for Refused {
     fn fmt<W: fmt::Write>(&self, f: &mut Formatter<W>) -> fmt::Result {
         let why = match self.0 {
@@ -114,5 +94,18 @@ impl Display for Refused {
             _ => "",
         };
         write!(f, "refused by {}{why}", self.0.number())
+    }
+}
+
+// What a call answers, or its refusal.
+#[derive(Clone, Copy)]
+pub struct Answered<T>(pub Result<T, ProducerError>);
+
+impl<T: Display> Display for Answered<T> {
+    fn fmt<W: fmt::Write>(&self, f: &mut Formatter<W>) -> fmt::Result {
+        match &self.0 {
+            Ok(x) => x.fmt(f),
+            Err(e) => Refused(*e).fmt(f),
+        }
     }
 }
