@@ -1,4 +1,4 @@
-// Up to N items, in fixed memory.
+// Up to N items, in fixed memory, since no heap is allowed here.
 use std::iter::Flatten;
 use std::option;
 use std::slice::Iter;

@@ -9,12 +9,12 @@ use std::io;
 use types::message::Part;
 use types::outbound::OutboundFrame;
 
-// The frames taken so far and their bytes: payloads one behind the other, and keys likewise.
+// The frames taken so far and their bytes: payloads one behind the other, and keys likewise. No heap is allowed here, so the
+// memory is fixed, and beside it stands how far it is used.
 #[derive(Drop)]
 pub struct Taken {
     pub frames: List<Frame, 16>,
     pub bytes: [u8; 1024],
-    // How far the payloads and the keys go.
     payloads: usize,
     keys: usize,
 }
@@ -37,14 +37,15 @@ impl Taken {
         &mut self.bytes[self.payloads.min(KEYS)..KEYS]
     }
 
-    // The bytes of a key that is kept; None where there is no room.
-    fn put(&mut self, key: &[u8]) -> Option<Part> {
+    // A key of the store, kept. None where there is none, or no room for it.
+    fn put(&mut self, store: &[u8], key: Option<Part>) -> Option<Part> {
+        let key = bytes_at(store, key?);
+        let end = self.keys.checked_add(key.len())?;
+        self.bytes.get_mut(self.keys..end)?.copy_from_slice(key);
         let part = Part {
             start: self.keys,
             len: key.len(),
         };
-        let end = self.keys.checked_add(key.len())?;
-        self.bytes.get_mut(self.keys..end)?.copy_from_slice(key);
         self.keys = end;
         Some(part)
     }
@@ -55,14 +56,8 @@ impl Taken {
             start: self.payloads,
             len: f.payload_len,
         };
-        let partition_key = f
-            .metadata
-            .partition_key
-            .and_then(|p| self.put(bytes_at(store, p)));
-        let ordering_key = f
-            .metadata
-            .ordering_key
-            .and_then(|p| self.put(bytes_at(store, p)));
+        let partition_key = self.put(store, f.metadata.partition_key);
+        let ordering_key = self.put(store, f.metadata.ordering_key);
         self.payloads = self.payloads.saturating_add(f.payload_len);
         let frame = Frame::of(&f.metadata, payload, partition_key, ordering_key);
         self.frames.push(frame);
