@@ -1,5 +1,6 @@
 -- The cases that document 01 marks with a star: what the definitions compute, and what the document says.
-use Rattle.std.specs.Prelude.{ℕ, zero, suc, ◌+◌, ◌-◌, ◌^◌, List, [], ◌∷◌, length, ℤ, pos, negsuc, None, Option, Some}
+use Rattle.std.specs.Prelude.{ℕ, ◌-◌, ◌^◌, List, [], ◌∷◌, length, map, ℤ, pos, negsuc, None, Option, Some}
+use Rattle.std.specs.List.{sum_by, range_with_len}
 use Rattle.types.specs.Time.{deadline_with_clamp}
 use Rattle.types.specs.Ids.{of_receipt, before_next}
 use Rattle.types.specs.Empty.{empty_name}
@@ -76,15 +77,11 @@ batch_of lowest highest ms =
     batch_frame quote (record { 0 = 7 }) (record_of lowest Single no_message)
     (record {
       num_messages = length ms;
-      current_size_bytes = sum ms;
+      current_size_bytes = sum_by (λ (m : SingleMessage). m.payload.len) ms;
       highest_sequence_id = record { 0 = highest };
       txn_id = no_message.txn_id;
     })
     ms
-  where
-    sum : List SingleMessage → ℕ
-    sum [] = 0
-    sum (m ∷ ms) = m.payload.len + sum ms
 
 -- how a message of a length is cut under a limit, and its k-th chunk
 abbrev cut : ℕ → ℕ → ℕ → ChunkedMessageContext
@@ -95,12 +92,11 @@ abbrev chunk_of : ℕ → ℕ → ℕ → Frame
 chunk_of limit len k = chunk_frame [] (record { 0 = 7 }) (record_of 0 Single (message len)) (cut limit len k)
 
 -- the lengths of its chunks
-abbrev chunks_from : ℕ → ℕ → ℕ → ℕ → List ℕ
-chunks_from limit len zero k = []
-chunks_from limit len (suc n) k = (chunk_part (record_of 0 Single (message len)) (cut limit len k)).len ∷ chunks_from limit len n (k + 1)
-
 abbrev chunk_lengths : ℕ → ℕ → List ℕ
-chunk_lengths limit len = chunks_from limit len (total_chunks len (chunk_size limit)) 0
+chunk_lengths limit len =
+    map
+    (λ k. (chunk_part (record_of 0 Single (message len)) (cut limit len k)).len)
+    (range_with_len 0 (total_chunks len (chunk_size limit)))
 
 abbrev pub rows : List Row
 rows =

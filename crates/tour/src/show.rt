@@ -1,135 +1,73 @@
 // Frames and messages in words.
-use crate::parts::bytes_at;
-use crate::say::{self, Out};
-use rules::numbers::saturating_add_u64;
-use types::message::{Part, SingleMessage};
+use crate::message::Message;
+use crate::words::{Given, Mark, Printed, Txn, bytes, messages};
+use std::fmt::{self, Display, Formatter};
+use std::io;
 use types::outbound::{MessageMetadata, OutboundFrame};
-use types::txn::TxnId;
-use types::types::SequenceId;
 
-fn number(out: &mut Out, before: &[u8], n: Option<u64>) {
-    if let Some(x) = n {
-        say::text(out, before);
-        say::number(out, x);
-    }
-}
+#[derive(Clone, Copy)]
+struct Kind<'a>(&'a MessageMetadata);
 
-fn kind(out: &mut Out, m: MessageMetadata) {
-    let count = m.num_messages_in_batch;
-    let chunk_id = m.chunk_id;
-    let chunks = m.num_chunks_from_msg;
-    match count {
-        Some(n) => {
-            say::text(out, b"batch of ");
-            say::count(out, n, b" message", b" messages");
-        }
-        None => match chunk_id {
-            Some(n) => {
-                say::text(out, b"chunk ");
-                say::number(out, saturating_add_u64(n, 1));
-                number(out, b" of ", chunks);
-            }
-            None => {
-                say::text(out, b"single message");
-            }
-        },
-    }
-}
-
-fn ids(out: &mut Out, lowest: SequenceId, highest: Option<u64>) {
-    match highest {
-        Some(n) => {
-            say::text(out, b", sequence ids ");
-            say::number(out, lowest.0);
-            say::text(out, b" to ");
-            say::number(out, n);
-        }
-        None => {
-            say::text(out, b", sequence id ");
-            say::number(out, lowest.0);
+impl Display for Kind<'_> {
+    fn fmt<W: fmt::Write>(&self, f: &mut Formatter<W>) -> fmt::Result {
+        let m = self.0;
+        match (m.num_messages_in_batch, m.chunk_id) {
+            (Some(n), _) => write!(f, "batch of {}", messages(n)),
+            (None, Some(n)) => write!(
+                f,
+                "chunk {}{}",
+                n.saturating_add(1),
+                Given(" of ", m.num_chunks_from_msg)
+            ),
+            (None, None) => f.write_str("single message"),
         }
     }
 }
 
-fn transaction(out: &mut Out, t: Option<TxnId>) {
-    if let Some(id) = t {
-        say::text(out, b", transaction ");
-        say::number(out, id.most_sig_bits);
-        say::text(out, b":");
-        say::number(out, id.least_sig_bits);
-    }
-}
+#[derive(Clone, Copy)]
+struct Ids<'a>(&'a MessageMetadata);
 
-fn uuid(out: &mut Out, u: Option<[u8; 36]>) {
-    if let Some(text) = u {
-        say::text(out, b", uuid ");
-        say::text(out, &text);
-    }
-}
-
-fn quoted(out: &mut Out, payload: &[u8]) {
-    say::text(out, b"\"");
-    say::printable(out, payload);
-    say::line(out, b"\"");
-}
-
-// Its metadata in a line, and its payload in another, where a dot stands for a byte that is no printed character.
-pub fn frame(out: &mut Out, place: usize, f: OutboundFrame, payload: &[u8]) {
-    let m = f.metadata;
-    let lowest = m.sequence_id;
-    let highest = m.highest_sequence_id;
-    let txn_id = m.txn_id;
-    let size = m.total_chunk_msg_size;
-    let text = m.uuid;
-    say::text(out, b"frame ");
-    say::number(out, place as u64);
-    say::text(out, b": ");
-    kind(out, m);
-    ids(out, lowest, highest);
-    transaction(out, txn_id);
-    say::text(out, b", payload ");
-    say::number(out, f.payload_len as u64);
-    number(out, b" of ", size);
-    say::text(out, b" bytes");
-    uuid(out, text);
-    say::line(out, b"");
-    say::text(out, b"    ");
-    quoted(out, payload);
-}
-
-fn key(out: &mut Out, name: &[u8], bytes: &[u8], k: Option<Part>) {
-    if let Some(p) = k {
-        say::text(out, name);
-        say::printable(out, bytes_at(bytes, p.start, p.len));
-    }
-}
-
-fn mark(out: &mut Out, name: &[u8], m: Option<bool>) {
-    if let Some(yes) = m {
-        if yes {
-            say::text(out, name);
+impl Display for Ids<'_> {
+    fn fmt<W: fmt::Write>(&self, f: &mut Formatter<W>) -> fmt::Result {
+        let lowest = self.0.sequence_id.0;
+        match self.0.highest_sequence_id {
+            Some(highest) => write!(f, "sequence ids {lowest} to {highest}"),
+            None => write!(f, "sequence id {lowest}"),
         }
     }
 }
 
-// A message whose parts are in the bytes.
-pub fn message(out: &mut Out, place: usize, bytes: &[u8], m: SingleMessage, txn_id: Option<TxnId>) {
-    let payload = m.payload;
-    let partition_key = m.partition_key;
-    let ordering_key = m.ordering_key;
-    let event_time = m.event_time;
-    let null_value = m.null_value;
-    let null_partition_key = m.null_partition_key;
-    say::text(out, b"message ");
-    say::number(out, place as u64);
-    say::text(out, b": ");
-    say::count(out, payload.len as u64, b" byte", b" bytes");
-    key(out, b", key ", bytes, partition_key);
-    mark(out, b", null key", null_partition_key);
-    key(out, b", ordering key ", bytes, ordering_key);
-    number(out, b", event time ", event_time);
-    mark(out, b", null value", null_value);
-    transaction(out, txn_id);
-    say::text(out, b" ");
-    quoted(out, bytes_at(bytes, payload.start, payload.len));
+// Its metadata in a line, and its payload in another.
+pub fn frame(out: &impl Print, place: usize, f: &OutboundFrame, payload: &[u8]) -> io::Result<()> {
+    let m = &f.metadata;
+    print!(out;
+        "frame {place}: {}, {}{}",
+        Kind(m),
+        Ids(m),
+        Given(", transaction ", m.txn_id.map(Txn))
+    )?;
+    print!(out;
+        ", payload {}{} bytes{}",
+        f.payload_len,
+        Given(" of ", m.total_chunk_msg_size),
+        Given(", uuid ", m.uuid.as_ref().map(|u| Printed(u)))
+    )?;
+    println!(out; "\n    \"{}\"", Printed(payload))
+}
+
+pub fn message(out: &impl Print, id: u64, m: &Message) -> io::Result<()> {
+    print!(out;
+        "message {id}: {}{}{}{}",
+        bytes(m.payload.len()),
+        Given(", key ", m.partition_key.map(Printed)),
+        Mark(", null key", m.null_partition_key),
+        Given(", ordering key ", m.ordering_key.map(Printed))
+    )?;
+    println!(out;
+        "{}{}{} \"{}\"",
+        Given(", event time ", m.event_time),
+        Mark(", null value", m.null_value),
+        Given(", transaction ", m.txn_id.map(Txn)),
+        Printed(m.payload)
+    )
 }

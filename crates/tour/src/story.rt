@@ -1,8 +1,7 @@
 // A tariff engine's producer, and the messages that it is to send.
-use crate::say::{self, Out};
 use producer::state::ProducerState;
 use rules::blank::no_message;
-use rules::numbers::saturating_add;
+use std::io;
 use types::message::{OutgoingMessage, Part};
 use types::settings::Setting;
 use types::txn::TxnId;
@@ -17,46 +16,37 @@ pub const MESSAGE_LIMIT: usize = 50;
 // Payload bytes that a batch holds: fewer than the rate table has.
 pub const BATCH_LIMIT: usize = 100;
 
-fn with(s: ProducerState, setting: Setting) -> ProducerState {
-    let r = s.set(setting);
-    let after = r.state;
-    after
-}
-
-fn named(s: ProducerState, name: &[u8]) -> ProducerState {
-    let r = s.set_name(name);
-    let after = r.state;
-    after
-}
-
 // A producer that batches and chunks, whose first sequence id is 1.
 pub fn tariff() -> ProducerState {
-    let mut s = ProducerState::new(ProducerHandle(7));
-    s = named(s, b"tariff");
-    s = with(s, Setting::BatchingEnabled(true));
-    s = with(s, Setting::ChunkingEnabled(true));
-    s = with(s, Setting::MaxMessageSize(MESSAGE_LIMIT));
-    s = with(s, Setting::MaxBatchSizeBytes(BATCH_LIMIT));
+    let mut s = ProducerState::new(ProducerHandle(7))
+        .set_name(b"tariff")
+        .state;
+    for setting in [
+        Setting::BatchingEnabled(true),
+        Setting::ChunkingEnabled(true),
+        Setting::MaxMessageSize(MESSAGE_LIMIT),
+        Setting::MaxBatchSizeBytes(BATCH_LIMIT),
+    ] {
+        s = s.set(setting).state;
+    }
     s.set_initial_sequence_id(1)
 }
 
-pub fn introduce(out: &mut Out) {
-    say::text(out, b"Producer tariff: a message over ");
-    say::number(out, MESSAGE_LIMIT as u64);
-    say::text(out, b" bytes goes out in chunks, a batch holds up to ");
-    say::number(out, BATCH_LIMIT as u64);
-    say::line(out, b" bytes of payload.");
+pub fn introduce(out: &impl Print) -> io::Result<()> {
+    println!(out;
+        "Producer tariff: a message over {MESSAGE_LIMIT} bytes goes out in chunks, a batch holds up to {BATCH_LIMIT} bytes of payload."
+    )
 }
 
 // A row of the store: a key in its first 8 bytes, a payload behind them.
 fn row(start: usize, key_len: usize, len: usize) -> OutgoingMessage {
     OutgoingMessage {
         payload: Part {
-            start: saturating_add(start, 8),
-            len: len,
+            start: start.saturating_add(8),
+            len,
         },
         partition_key: Some(Part {
-            start: start,
+            start,
             len: key_len,
         }),
         num_messages: 1,
