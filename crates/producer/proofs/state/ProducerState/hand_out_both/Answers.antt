@@ -1,5 +1,5 @@
 -- `ProducerState::hand_out_both`: what is planned is what the definitions hand out in the two tables.
-use Rattle.std.proofs.Common.{sym, arith}
+use Rattle.std.proofs.Common.{length-take, sym, arith}
 use Rattle.std.proofs.lemmas.Result.{err_from_is_err_and}
 use Rattle.producer.proofs.Full.{Full}
 use Rattle.producer.proofs.Snapshots.{snapshot_fits, snaps_short, snaps_done}
@@ -9,13 +9,15 @@ pub copy_entries-requires : goal.copy_entries-requires
 copy_entries-requires c =
     let s = c.args.self.now in
     let f : Full s = record { outbound = omega arith; held = omega arith; pending = omega arith; ids = omega arith; marks = omega arith } in
-    (snapshot_fits s c.args.dropped.now c.args.replay.now f c.in_ok-counts.counts (sym c.in_ok-counts.ensures)).0
+    let b = (snapshot_fits s c.args.dropped.now c.args.replay.now f c.in_ok-counts.counts (sym c.in_ok-counts.ensures)).0 in
+    omega (arith, length-take c.in_ok-counts.counts.dropped c.entries_of_kind-batched.result, b.1)
 
 pub copy_entries-requires-2 : goal.copy_entries-requires-2
 copy_entries-requires-2 c =
     let s = c.args.self.now in
     let f : Full s = record { outbound = omega arith; held = omega arith; pending = omega arith; ids = omega arith; marks = omega arith } in
-    (snapshot_fits s c.args.dropped.now c.args.replay.now f c.in_ok-counts.counts (sym c.in_ok-counts.ensures)).1
+    let b = (snapshot_fits s c.args.dropped.now c.args.replay.now f c.in_ok-counts.counts (sym c.in_ok-counts.ensures)).1 in
+    omega (arith, length-take c.in_ok-counts.counts.replay c.entries_of_kind-framed.result, b.1)
 
 pub returns : goal.returns
 returns c =
