@@ -1,89 +1,49 @@
 // The dump: all that can be asked of a producer, and its pending entries.
-ghost use Rattle.script.specs.Output.{Wrote};
+ghost use Rattle.script.specs.Output.{Writes};
 
 use producer::state::ProducerState;
-use rules::numbers::at_most;
-use script::answer::{put_core, put_publish};
-use script::write::{put_bool, put_count32};
+use script::answer::{put_core, put_done};
+use script::operation::Call;
+use script::write::{Output, low_half};
 use types::entry::Publish;
 use upkeep::pending::locate;
 
-const CODE: u8 = 0x26;
-
-fn put_pending(out: &mut [u8], to: usize, mark: u8, id: u64, publish: Publish) -> usize
-    ensures { Wrote to out.old out.new result }
-{
-    let marked = put_bool(out, to, mark != 0);
-    put_publish(out, marked, id, publish)
-}
-
-fn put_scalars(s: ProducerState, out: &mut [u8], to: usize, n: usize) -> usize
-    ensures { Wrote to out.old out.new result }
-{
-    let c = s.core;
-    let head = s.core.rings.pending_head % 256;
-    let front = s.pending[head];
-    let scalars = put_core(out, to, CODE, c, front.enqueued_at);
-    put_count32(out, scalars, n)
-}
-
 fn put_entries(
-    out: &mut [u8],
-    to: usize,
-    pending: [Publish; 256],
-    ids: [u64; 256],
-    marks: [u8; 256],
+    out: &mut Output,
+    pending: &[Publish; 256],
+    ids: &[u64; 256],
+    answerable: &[bool; 256],
     head: usize,
     n: usize,
-) -> usize
-    ensures { Wrote to out.old out.new result }
+)
+    ensures { Writes out.old out.new }
 {
     let start = head % 256;
-    let count = at_most(n, 256);
-    let mut at = to;
-    let mut i: usize = 0;
-    while i < count {
+    for i in 0..n.min(256) {
         let place = (start + i) % 256;
-        let publish = pending[place];
-        let id = ids[place];
-        let mark = marks[place];
-        at = put_pending(out, at, mark, id, publish);
-        i += 1;
-    }
-    at
-}
-
-fn mark_of(found: Option<usize>) -> u8 {
-    match found {
-        Some(_) => 1,
-        None => 0,
+        out.put((answerable[place], ids[place], pending[place]));
     }
 }
 
-// Not 0 where the entry's id is answerable: one entry that keeps it in the index serves all that bear it.
-fn answerable(ids: [u64; 256], marks: [u8; 256], head: usize, n: usize) -> [u8; 256] {
+// True where the entry's id is answerable: one entry that keeps it in the index serves all that bear it.
+fn answerable(ids: &[u64; 256], marks: &[u8; 256], head: usize, n: usize) -> [bool; 256] {
     let start = head % 256;
-    let count = at_most(n, 256);
-    let mut shown: [u8; 256] = [0; 256];
-    let mut i: usize = 0;
-    while i < count {
+    let mut shown = [false; 256];
+    for i in 0..n.min(256) {
         let place = (start + i) % 256;
-        let id = ids[place];
-        shown[place] = mark_of(locate(&ids, &marks, head, n, id));
-        i += 1;
+        shown[place] = locate(ids, marks, head, n, ids[place]).is_some();
     }
     shown
 }
 
-pub fn put_dump(s: ProducerState, out: &mut [u8], to: usize) -> usize
-    ensures { Wrote to out.old out.new result }
+pub fn put_dump(s: &ProducerState, out: &mut Output)
+    ensures { Writes out.old out.new }
 {
     let head = s.core.rings.pending_head;
-    let n = at_most(s.core.rings.pending_len, 256);
-    let pending = s.pending;
-    let ids = s.pending_ids;
-    let kept = s.pending_marks;
-    let marks = answerable(ids, kept, head, n);
-    let scalars = put_scalars(s, out, to, n);
-    put_entries(out, scalars, pending, ids, marks, head, n)
+    let n = s.core.rings.pending_len.min(256);
+    put_done(out, Call::Dump, ());
+    put_core(out, s.core, s.pending[head % 256].enqueued_at);
+    out.put(low_half(n as u64));
+    let shown = answerable(&s.pending_ids, &s.pending_marks, head, n);
+    put_entries(out, &s.pending, &s.pending_ids, &shown, head, n);
 }

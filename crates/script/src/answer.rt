@@ -3,6 +3,7 @@
 
 ghost use Rattle.script.specs.Output.{Writes};
 
+use crate::operation::Call;
 use crate::write::{Output, Put, Stored, low_half, put_txn_halves};
 use plans::state::Core;
 use types::answer::SendDecision;
@@ -53,6 +54,13 @@ impl<T: Put> Put for Result<T, ProducerError> {
             Err(e) => out.put(e),
         }
     }
+}
+
+// What an operation answers that is not refused.
+pub fn put_done<T: Put>(out: &mut Output, call: Call, v: T)
+    ensures { Writes out.old out.new }
+{
+    out.put((call, 0u8, v));
 }
 
 impl Put for SendDecision {

@@ -138,7 +138,9 @@ fn more_size(call: Call, count: usize) -> Option<usize> {
 
 // A table's entries, at their count.
 fn entries(place: Place) -> &[u8] {
-    place.behind(4).bytes(ENTRY.saturating_mul(place.get::<u32>() as usize))
+    place
+        .behind(4)
+        .bytes(ENTRY.saturating_mul(place.get::<u32>() as usize))
 }
 
 // One test for all the bytes of a message, so that none is tested by itself.

@@ -1,5 +1,6 @@
 // What the operations of a script bring: messages and entries (docs/SCRIPT.md).
 use crate::read::{Get, Place};
+use types::command::{CommandSendError, CommandSendReceipt};
 use types::entry::{OpSend, Publish, Replay};
 use types::frame::ProducerName;
 use types::memory_limit::MemoryReservation;
@@ -70,6 +71,26 @@ impl Get for OpSend {
                 producer_name: place.behind(209).get(),
                 uuid: place.behind(274).get(),
             },
+        }
+    }
+}
+
+impl Get for CommandSendReceipt {
+    fn get(place: Place) -> CommandSendReceipt {
+        CommandSendReceipt {
+            producer_id: place.get(),
+            sequence_id: place.behind(8).get(),
+            message_id: place.behind(16).get(),
+        }
+    }
+}
+
+impl Get for CommandSendError {
+    fn get(place: Place) -> CommandSendError {
+        CommandSendError {
+            producer_id: place.get(),
+            sequence_id: place.behind(8).get(),
+            error: place.behind(16).get(),
         }
     }
 }
