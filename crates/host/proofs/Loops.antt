@@ -14,6 +14,7 @@ use Rattle.producer.proofs.Sends.{in_range}
 use Rattle.producer.specs.contracts.state.ProducerState.{the_type}
 use Rattle.script.specs.Output.{Writes}
 use Rattle.script.specs.declared.write.Output.{Output}
+use Rattle.script.proofs.Writings.{both}
 
 -- what is written of an output lies inside it
 pub inside : {a b : Output} → Writes a b → a.at ≤ length a.bytes.now → b.at ≤ length b.bytes.now
@@ -49,3 +50,13 @@ kept {is} {ms} i v w k = record { ids = length-set is i v ∙ k.ids; marks = len
 -- a mark alone is stored
 pub marked : {is ms : List ℕ} (i w : ℕ) → Keyed is ms → Keyed is (set ms i w)
 marked {is} {ms} i w k = record { ids = k.ids; marks = length-set ms i w ∙ k.marks }
+
+-- ── what each turn keeps ──
+
+pub record Runs (before after : Output) (s : ProducerState) : Type 0 where
+  pub writes : Writes before after
+  pub inside : after.at ≤ length after.bytes.now
+  pub keys : Keys s
+
+pub turned : {a b c : Output} {s t : ProducerState} → Runs a b s → Writes b c → Keys t → Runs a c t
+turned r w k = record { writes = both r.writes w; inside = inside w r.inside; keys = k }

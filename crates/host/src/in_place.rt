@@ -78,6 +78,7 @@ pub(crate) fn run_in_place(head: Head, out: &mut Output)
             arguments: place.behind(1),
             store: head.store,
         };
+        place = place.behind(op.size);
         repeated = repeated | repeats_ids(op.call);
         match drive_of(op.call) {
             Drive::Send => {
@@ -187,6 +188,5 @@ pub(crate) fn run_in_place(head: Head, out: &mut Output)
                 c = s.core;
             }
         }
-        place = place.behind(op.size);
     }
 }

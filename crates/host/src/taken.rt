@@ -9,6 +9,7 @@ use crate::task::Task;
 use frames::inside::single_inside;
 use frames::span::{Span, message_span};
 use plans::state::Core;
+use plans::take::TakePlan;
 use rules::bounds::part_in;
 use script::write::Output;
 use types::frame::FrameRecord;
@@ -23,6 +24,18 @@ pub(crate) struct Taken {
     pub core: Core,
 }
 
+// A refusal leaves the record and the scalars.
+fn left_by(plan: TakePlan, core: Core, slot: FrameRecord) -> Taken {
+    if plan.done {
+        Taken {
+            slot: plan.slot,
+            core: plan.core,
+        }
+    } else {
+        Taken { slot, core }
+    }
+}
+
 fn lay_message(buffer: &mut [u8], store: &[u8], span: Span, done: bool) -> usize
     requires { done ≡ true → Message store.now span buffer.old }
     ensures { Lays done span.len buffer.old buffer.new result }
@@ -34,7 +47,6 @@ fn lay_message(buffer: &mut [u8], store: &[u8], span: Span, done: bool) -> usize
     }
 }
 
-// A refusal leaves the record and the scalars.
 pub(crate) fn take_message(c: Core, front: FrameRecord, task: Task, out: &mut Output) -> Taken
     requires { out.old.at ≤ length out.old.bytes.now }
     ensures { Writes out.old out.new }
@@ -50,17 +62,7 @@ pub(crate) fn take_message(c: Core, front: FrameRecord, task: Task, out: &mut Ou
         plan.done,
     );
     put_taken(out, buffer, lent, plan.answer, plan.frame);
-    if plan.done {
-        Taken {
-            slot: plan.slot,
-            core: plan.core,
-        }
-    } else {
-        Taken {
-            slot: front,
-            core: c,
-        }
-    }
+    left_by(plan, c, front)
 }
 
 // One message of a batch, as the writers of `script` do it: where it has no room, or not all of it lies in the store, nothing is
