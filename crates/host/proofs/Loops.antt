@@ -12,18 +12,13 @@ use Rattle.producer.specs.Apply.{InRange}
 use Rattle.producer.specs.declared.state.ProducerState.{ProducerState}
 use Rattle.producer.proofs.Sends.{in_range}
 use Rattle.producer.specs.contracts.state.ProducerState.{the_type}
-use Rattle.host.specs.Steps.{Steps}
-use Rattle.script.specs.Output.{Wrote}
+use Rattle.script.specs.Output.{Writes}
+use Rattle.script.specs.declared.write.Output.{Output}
+use Rattle.script.proofs.Writings.{both}
 
-pub inside : {a b : List ℕ} {r : ℕ} → Wrote 0 a b r → r ≤ length b
-inside w = let e = w.same in let h = w.within in omega arith
-
-pub less : (at len next : ℕ) (ended : Bool) → ended ≡ false → Steps at len ended next → len - next < len - at
-less at len next true e s = absurd (true_false e)
-  where
-    true_false : true ≡ false → ⊥
-    true_false q = let z : ◌≡◌ {A = ℕ} 0 1 = cc in omega arith
-less at len next false e s = let h = s.0 in let k = s.1 in omega arith
+-- what is written of an output lies inside it
+pub inside : {a b : Output} → Writes a b → a.at ≤ length a.bytes.now → b.at ≤ length b.bytes.now
+inside w h = let v = w.wrote in let e = v.same in let k = v.within in omega arith
 
 -- the places of a planned send lie in their rings
 pub there : (n : ℕ) (a : Sending) (k : Core) {d : SendDelta} → d ≡ planned n a k → InRange d
@@ -55,3 +50,13 @@ kept {is} {ms} i v w k = record { ids = length-set is i v ∙ k.ids; marks = len
 -- a mark alone is stored
 pub marked : {is ms : List ℕ} (i w : ℕ) → Keyed is ms → Keyed is (set ms i w)
 marked {is} {ms} i w k = record { ids = k.ids; marks = length-set ms i w ∙ k.marks }
+
+-- ── what each turn keeps ──
+
+pub record Runs (before after : Output) (s : ProducerState) : Type 0 where
+  pub writes : Writes before after
+  pub inside : after.at ≤ length after.bytes.now
+  pub keys : Keys s
+
+pub turned : {a b c : Output} {s t : ProducerState} → Runs a b s → Writes b c → Keys t → Runs a c t
+turned r w k = record { writes = both r.writes w; inside = inside w r.inside; keys = k }

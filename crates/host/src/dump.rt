@@ -1,89 +1,50 @@
 // The dump: all that can be asked of a producer, and its pending entries.
-ghost use Rattle.script.specs.Output.{Wrote};
+ghost use Rattle.script.specs.Output.{Writes};
 
 use producer::state::ProducerState;
-use rules::numbers::at_most;
-use script::answer::{put_core, put_publish};
-use script::write::{put_bool, put_count32};
+use rules::rings::Ring;
+use script::answer::{put_core, put_done};
+use script::operation::Call;
+use script::write::{Output, low_half};
 use types::entry::Publish;
-use upkeep::pending::locate;
-
-const CODE: u8 = 0x26;
-
-fn put_pending(out: &mut [u8], to: usize, mark: u8, id: u64, publish: Publish) -> usize
-    ensures { Wrote to out.old out.new result }
-{
-    let marked = put_bool(out, to, mark != 0);
-    put_publish(out, marked, id, publish)
-}
-
-fn put_scalars(s: ProducerState, out: &mut [u8], to: usize, n: usize) -> usize
-    ensures { Wrote to out.old out.new result }
-{
-    let c = s.core;
-    let head = s.core.rings.pending.head % 256;
-    let front = s.pending[head];
-    let scalars = put_core(out, to, CODE, c, front.enqueued_at);
-    put_count32(out, scalars, n)
-}
+use upkeep::pending::Index;
 
 fn put_entries(
-    out: &mut [u8],
-    to: usize,
-    pending: [Publish; 256],
-    ids: [u64; 256],
-    marks: [u8; 256],
-    head: usize,
-    n: usize,
-) -> usize
-    ensures { Wrote to out.old out.new result }
+    out: &mut Output,
+    pending: &[Publish; 256],
+    ids: &[u64; 256],
+    answerable: &[bool; 256],
+    ring: Ring<256>,
+)
+    ensures { Writes out.old out.new }
 {
-    let start = head % 256;
-    let count = at_most(n, 256);
-    let mut at = to;
-    let mut i: usize = 0;
-    while i < count {
-        let place = (start + i) % 256;
-        let publish = pending[place];
-        let id = ids[place];
-        let mark = marks[place];
-        at = put_pending(out, at, mark, id, publish);
-        i += 1;
-    }
-    at
-}
-
-fn mark_of(found: Option<usize>) -> u8 {
-    match found {
-        Some(_) => 1,
-        None => 0,
+    for i in 0..ring.len.min(256) {
+        let place = ring.slot(i);
+        out.put((answerable[place], ids[place], pending[place]));
     }
 }
 
-// Not 0 where the entry's id is answerable: one entry that keeps it in the index serves all that bear it.
-fn answerable(ids: [u64; 256], marks: [u8; 256], head: usize, n: usize) -> [u8; 256] {
-    let start = head % 256;
-    let count = at_most(n, 256);
-    let mut shown: [u8; 256] = [0; 256];
-    let mut i: usize = 0;
-    while i < count {
-        let place = (start + i) % 256;
-        let id = ids[place];
-        shown[place] = mark_of(locate(&ids, &marks, head, n, id));
-        i += 1;
+// True where the entry's id is answerable: one entry that keeps it in the index serves all that bear it.
+fn answerable(index: Index) -> [bool; 256] {
+    let mut shown = [false; 256];
+    for i in 0..index.ring.len.min(256) {
+        let place = index.ring.slot(i);
+        shown[place] = index.locate(index.ids[place]).is_some();
     }
     shown
 }
 
-pub fn put_dump(s: ProducerState, out: &mut [u8], to: usize) -> usize
-    ensures { Wrote to out.old out.new result }
+pub fn put_dump(s: &ProducerState, out: &mut Output)
+    ensures { Writes out.old out.new }
 {
-    let head = s.core.rings.pending.head;
-    let n = at_most(s.core.rings.pending.len, 256);
-    let pending = s.pending;
-    let ids = s.pending_ids;
-    let kept = s.pending_marks;
-    let marks = answerable(ids, kept, head, n);
-    let scalars = put_scalars(s, out, to, n);
-    put_entries(out, scalars, pending, ids, marks, head, n)
+    let ring = s.core.rings.pending;
+    put_done(out, Call::Dump, ());
+    put_core(out, s.core, s.pending[ring.head % 256].enqueued_at);
+    out.put(low_half(ring.len.min(256) as u64));
+    let shown = answerable(Index {
+        ids: &s.pending_ids,
+        marks: &s.pending_marks,
+        ring,
+    });
+    put_entries(out, &s.pending, &s.pending_ids, &shown, ring);
 }

@@ -1,25 +1,22 @@
 // A whole script by the plans of the public methods, applied here, in the function that owns the state: no ring is copied but
 // for the operations on whole tables and the dump (docs/DECISIONS.md, 'What a call costs').
-ghost use Rattle.std.specs.Prelude.{◌<◌, ◌≤◌};
-ghost use Rattle.script.specs.Output.{Wrote};
+ghost use Rattle.std.specs.Prelude.{◌<◌, ◌≤◌, length};
+ghost use Rattle.script.specs.Output.{Writes};
 
-use crate::arguments::{lent_at, sending_at};
 use crate::call::call;
-use crate::lent::{call_lent, no_entries};
+use crate::lent::{Entries, call_lent};
 use crate::plan::{plan, put_settled, settled_ids};
-use crate::run::next_step;
-use crate::take::{put_frame, up_to};
+use crate::run::next_operation;
+use crate::take::{buffer_of, put_frame};
 use crate::taken::{put_held, take_message};
+use crate::task::Task;
 use frames::span::{empty_span, held_count, is_batch, with_item};
 use producer::state::ProducerState;
-use rules::numbers::{at_most, saturating_sub};
 use rules::rings::head_after;
-use script::answer::{put_decision, put_outcome, put_publish, put_refusal};
-use script::operation::STORE;
-use script::read::{behind, bytes_at, lent_of, u64_at, usize_at};
+use script::operation::{Call, Head};
+use script::write::Output;
 use types::error::ProducerError;
-use types::types::ProducerHandle;
-use upkeep::pending::locate;
+use upkeep::pending::Index;
 
 // How an operation is carried out.
 #[derive(Clone, Copy)]
@@ -32,26 +29,27 @@ enum Drive {
     ByValue,
 }
 
-fn drive_of(code: u8) -> Drive {
-    match code {
-        0x01..=0x02 => Drive::Send,
-        0x03 => Drive::Scalars,
-        0x04 => Drive::Take,
-        0x05..=0x06 => Drive::Settle,
-        0x07..=0x0B => Drive::Lent,
-        0x0C => Drive::ByValue,
-        0x26 => Drive::ByValue,
+fn drive_of(call: Call) -> Drive {
+    match call {
+        Call::QueueSendReserved | Call::QueueSend => Drive::Send,
+        Call::NextOutboundFrame => Drive::Take,
+        Call::ApplyReceipt | Call::ApplySendError => Drive::Settle,
+        Call::DrainTimedOutSends
+        | Call::DrainPendingSends
+        | Call::SnapshotPendingSends
+        | Call::ReplaySnapshots
+        | Call::ReplayLastSnapshot => Drive::Lent,
+        Call::ReplayPendingOutbound | Call::Dump => Drive::ByValue,
         _ => Drive::Scalars,
     }
 }
 
 // Sends count their ids up from 0. Two entries can bear one id only once a first id was set or entries were replayed.
-fn repeats_ids(code: u8) -> bool {
-    match code {
-        0x0A..=0x0B => true,
-        0x0D => true,
-        _ => false,
-    }
+fn repeats_ids(call: Call) -> bool {
+    matches!(
+        call,
+        Call::ReplaySnapshots | Call::ReplayLastSnapshot | Call::SetInitialSequenceId
+    )
 }
 
 // A place of a ring of `n` that begins at `head`.
@@ -63,186 +61,126 @@ fn slot(n: usize, head: usize, i: usize) -> usize
 }
 
 #[inline(never)]
-pub(crate) fn run_in_place(script: &[u8], store_len: usize, handle: u64, out: &mut [u8]) -> usize
-    ensures { Wrote 0 out.old out.new result }
+pub(crate) fn run_in_place(head: Head, out: &mut Output)
+    requires { out.old.at ≤ length out.old.bytes.now }
+    ensures { Writes out.old out.new }
 {
-    let store = bytes_at(script, STORE, store_len);
-    let mut s = ProducerState::new(ProducerHandle(handle));
+    let mut s = ProducerState::new(head.handle);
     // The scalars in use; those in `s` are set where the whole state is handed on.
     let mut c = s.core;
     // Whether two pending entries may bear one id.
     let mut repeated = false;
-    let mut last = no_entries();
-    let mut at = behind(STORE, store_len);
-    let mut to: usize = 0;
-    loop {
-        let step = next_step(script, at, out, to);
-        to = step.to;
-        if step.ended {
-            break;
-        }
-        let code = step.code;
-        repeated = repeated | repeats_ids(code);
-        let drive = drive_of(code);
-        match drive {
+    let mut last = Entries::none();
+    let mut place = head.operations;
+    while let Some(op) = next_operation(place, out) {
+        let task = Task {
+            call: op.call,
+            arguments: place.behind(1),
+            store: head.store,
+        };
+        place = place.behind(op.size);
+        repeated = repeated | repeats_ids(op.call);
+        match drive_of(op.call) {
             Drive::Send => {
-                let a = sending_at(script, at, code);
-                let d = c.plan_send(lent_at(script, at, code, store), a);
-                let answer = d.answer;
-                if d.first.put {
-                    let at1 = d.first.at;
-                    let f1 = d.first.frame;
-                    s.outbound[at1] = f1;
-                }
-                if d.second.put {
-                    let at2 = d.second.at;
-                    let f2 = d.second.frame;
-                    s.outbound[at2] = f2;
-                }
-                if d.entry.put {
-                    let at3 = d.entry.at;
-                    let p = d.entry.publish;
-                    s.pending[at3] = p;
-                    s.pending_ids[at3] = d.entry.id;
-                    s.pending_marks[at3] = d.entry.mark;
-                }
-                if d.held.put {
-                    let at4 = d.held.at;
-                    let m = d.held.single;
-                    s.held[at4] = m;
-                }
-                to = put_decision(out, to, code, answer);
-                let core = d.core;
-                c = core;
+                let d = c.plan_send(task.lent_to_send().len(), task.sending());
+                s.store_frame(d.first);
+                s.store_frame(d.second);
+                s.store_entry(d.entry);
+                s.store_held(d.held);
+                out.put((op.call, d.answer));
+                c = d.core;
             }
             Drive::Take => {
                 let front_at = c.rings.outbound.head % 1024;
                 let front = s.outbound[front_at];
-                let kind = front.kind;
-                if is_batch(kind) {
-                    let lent = lent_of(store, u64_at(script, behind(at, 9)));
-                    let start = up_to(out.len(), to, 10);
-                    let end = up_to(out.len(), start, usize_at(script, behind(at, 1)));
+                if is_batch(front.kind) {
+                    let lent = task.lent_to_take();
+                    let buffer = buffer_of(task, out);
                     let first = c.rings.held.head;
-                    let count = held_count(kind, c.rings.held.len);
+                    let count = held_count(front.kind, c.rings.held.len);
                     let mut span = empty_span();
-                    let mut i: usize = 0;
-                    while i < count {
-                        let place = slot(512, first, i);
-                        let m = s.held[place];
-                        span = with_item(span, m, lent.len());
-                        i += 1;
+                    for i in 0..count {
+                        span = with_item(span, s.held[slot(512, first, i)], lent.len());
                     }
-                    let p = c.plan_take(front, span, count, end - start);
-                    if p.done {
-                        let mut laid = start;
-                        let mut j: usize = 0;
-                        while j < count {
-                            let place = slot(512, first, j);
-                            let m = s.held[place];
-                            laid = put_held(out, laid, lent, m);
-                            j += 1;
+                    match c.plan_take(front, span, count, buffer.end - buffer.start) {
+                        Ok(p) => {
+                            // The payload is laid out in the buffer, and the answer put around it.
+                            let start = out.at;
+                            out.at = buffer.start;
+                            for j in 0..count {
+                                put_held(out, lent, s.held[slot(512, first, j)]);
+                            }
+                            let n = out.at - buffer.start;
+                            out.at = start;
+                            put_frame(out, buffer.start, n, lent, p.frame);
+                            s.outbound[front_at] = p.slot;
+                            c = p.core;
                         }
-                        let frame = p.frame;
-                        let after = p.slot;
-                        let core = p.core;
-                        to = put_frame(out, to, start, laid - start, lent, frame);
-                        s.outbound[front_at] = after;
-                        c = core;
-                    } else {
-                        let answer = p.answer;
-                        to = put_outcome(out, to, code, answer);
+                        Err(e) => out.put((op.call, e)),
                     }
                 } else {
-                    let r = take_message(c, front, script, at, store, out, to);
-                    let after = r.slot;
-                    let core = r.core;
-                    s.outbound[front_at] = after;
-                    c = core;
-                    to = r.to;
+                    if let Some(p) = take_message(c, front, task, out) {
+                        s.outbound[front_at] = p.slot;
+                        c = p.core;
+                    }
                 }
             }
             Drive::Settle => {
-                let id = u64_at(script, behind(at, 9));
+                let id = task.arguments.behind(8).get();
                 let head = c.rings.pending.head;
                 let len = c.rings.pending.len;
-                let found = locate(&s.pending_ids, &s.pending_marks, head, len, id);
-                match found {
+                let index = Index {
+                    ids: &s.pending_ids,
+                    marks: &s.pending_marks,
+                    ring: c.rings.pending,
+                };
+                match index.locate(id) {
                     Some(i) => {
-                        let first = slot(256, head, i);
-                        let told = put_settled(script, at, code, out, to);
-                        let publish = s.pending[first];
-                        to = put_publish(out, told, id, publish);
-                        let n = at_most(len, 256);
-                        let left = saturating_sub(n, 1);
+                        put_settled(task, out);
+                        out.put((id, s.pending[slot(256, head, i)]));
+                        let n = len.min(256);
+                        let left = n.saturating_sub(1);
                         if repeated {
                             // No entry in front of this one bears the id.
-                            let mut k = i;
-                            while k < n {
+                            for k in i..n {
                                 let here = slot(256, head, k);
-                                let entry = s.pending_ids[here];
-                                if entry == id {
+                                if s.pending_ids[here] == id {
                                     s.pending_marks[here] = 0;
                                 }
-                                k += 1;
                             }
                         }
                         if 0 < i {
-                            let mut j = i;
-                            while j < left {
+                            for j in i..left {
                                 let source = slot(256, head, j + 1);
                                 let target = slot(256, head, j);
-                                let moved = s.pending[source];
-                                let moved_id = s.pending_ids[source];
-                                let moved_mark = s.pending_marks[source];
-                                s.pending[target] = moved;
-                                s.pending_ids[target] = moved_id;
-                                s.pending_marks[target] = moved_mark;
-                                j += 1;
+                                s.pending[target] = s.pending[source];
+                                s.pending_ids[target] = s.pending_ids[source];
+                                s.pending_marks[target] = s.pending_marks[source];
                             }
                         }
-                        let ids = c.ids;
-                        let published = settled_ids(ids, code, id);
-                        c.ids = published;
-                        let head_then = head_after(head, i);
-                        c.rings.pending.head = head_then;
+                        c.ids = settled_ids(c.ids, op.call, id);
+                        c.rings.pending.head = head_after(head, i);
                         c.rings.pending.len = left;
                     }
-                    None => {
-                        to = put_refusal(out, to, code, ProducerError::NotAnswerable);
-                    }
+                    None => out.put((op.call, ProducerError::NotAnswerable)),
                 }
             }
             Drive::Scalars => {
                 let front_at = c.rings.pending.head % 256;
-                let publish = s.pending[front_at];
-                let p = plan(c, publish.enqueued_at, script, at, code, out, to);
-                let core = p.core;
-                c = core;
-                if p.frame.put {
-                    let at1 = p.frame.at;
-                    let f1 = p.frame.frame;
-                    s.outbound[at1] = f1;
-                }
-                to = p.to;
+                let p = plan(c, s.pending[front_at].enqueued_at, task, out);
+                s.store_frame(p.frame);
+                c = p.core;
             }
             Drive::Lent => {
                 s.core = c;
-                let r = call_lent(&s, last, script, at, code, out, to);
-                s = r.state;
+                s = call_lent(&s, &mut last, task, out);
                 c = s.core;
-                last = r.last;
-                to = r.to;
             }
             Drive::ByValue => {
                 s.core = c;
-                let r = call(&s, script, at, code, store, out, to);
-                s = r.state;
+                s = call(&s, task, out);
                 c = s.core;
-                to = r.to;
             }
         }
-        at = step.next;
     }
-    to
 }

@@ -1,7 +1,6 @@
-// Carries scripts out on a producer and writes the answers (docs/SCRIPT.md).
-#![tactic(auto)]
+// A host of the producer: carries a script out and writes the answers (docs/SCRIPT.md).
+#![tactic(auto, using(script::proofs::Writings::both))]
 
-mod arguments;
 mod call;
 mod dump;
 mod in_place;
@@ -10,6 +9,7 @@ mod plan;
 pub mod run;
 mod take;
 mod taken;
+mod task;
 
 ghost use Rattle.script.specs.Output.{Wrote};
 

@@ -1,161 +1,123 @@
 // The operations that need no ring, on the scalars: settings, ids, queries and the flush; and what a receipt or an error does to
 // the ids. The same plans as those of the public methods.
-ghost use Rattle.std.specs.Prelude.{◌≡◌, ◌<◌};
-ghost use Rattle.script.specs.Output.{Wrote};
-ghost use Rattle.host.specs.Plans.{Plans};
+ghost use Rattle.script.specs.Output.{Writes};
 
-use crate::arguments::{name_bytes_at, setting_at};
-use crate::call::put_len;
-use plans::delta::{FramePut, no_frame};
+use crate::task::Task;
+use plans::delta::Put;
 use plans::state::Core;
-use script::answer::{put_count, put_deadline, put_outcome, put_stats, put_status, put_yes};
-use script::read::{behind, i32_at, maybe_id_data_at, u64_at, usize_at};
-use script::write::{put_i32, put_message_id};
+use script::answer::put_done;
+use script::operation::Call;
+use script::write::Output;
+use types::command::{CommandSendError, CommandSendReceipt};
 use types::error::ProducerError;
+use types::frame::FrameRecord;
 use types::stats::SequenceIds;
 use types::types::MessageId;
 use upkeep::deadline::elapsed;
 use upkeep::stats::{outbound_len_of, published_ids, stats_of};
 
-// The scalars after an operation, the frame that it pushes, if any, and the place behind its answer.
+// The scalars after an operation, and the frame that it pushes, if any.
 #[derive(Clone, Copy)]
 pub(crate) struct Planned {
     pub core: Core,
-    pub frame: FramePut,
-    pub to: usize,
+    pub frame: Option<Put<FrameRecord>>,
 }
 
-fn scalars(core: Core, to: usize) -> Planned
-    ensures { (result.to ≡ to) × (result.frame.at < 1024) }
+fn scalars(core: Core) -> Planned {
+    Planned { core, frame: None }
+}
+
+fn plan_flush(c: Core, task: Task, out: &mut Output) -> Planned
+    ensures { Writes out.old out.new }
 {
-    let frame = no_frame();
+    let d = c.plan_flush(task.arguments.get());
+    out.put((task.call, d.answer));
     Planned {
-        core: core,
-        frame: frame,
-        to: to,
+        core: d.core,
+        frame: d.frame,
     }
 }
 
-fn plan_flush(c: Core, script: &[u8], at: usize, code: u8, out: &mut [u8], to: usize) -> Planned
-    ensures { Plans to out.old out.new result }
+// A refusal leaves the scalars.
+fn plan_set(c: Core, plan: Result<Core, ProducerError>, call: Call, out: &mut Output) -> Core
+    ensures { Writes out.old out.new }
 {
-    let d = c.plan_flush(u64_at(script, behind(at, 1)));
-    let answer = d.answer;
-    let core = d.core;
-    let frame = d.frame;
-    Planned {
-        core: core,
-        frame: frame,
-        to: put_count(out, to, code, answer),
-    }
-}
-
-fn plan_name(c: Core, script: &[u8], at: usize, code: u8, out: &mut [u8], to: usize) -> Planned
-    ensures { Plans to out.old out.new result }
-{
-    let p = c.set_name(name_bytes_at(script, at));
-    let answer = p.answer;
-    let core = p.core;
-    scalars(core, put_outcome(out, to, code, answer))
-}
-
-fn plan_set(c: Core, script: &[u8], at: usize, code: u8, out: &mut [u8], to: usize) -> Planned
-    ensures { Plans to out.old out.new result }
-{
-    let setting = setting_at(script, at, code);
-    let p = c.set(setting);
-    let answer = p.answer;
-    let core = p.core;
-    scalars(core, put_outcome(out, to, code, answer))
+    out.put((call, plan.map(|_| ())));
+    plan.unwrap_or(c)
 }
 
 // `enqueued_at` is that of the front entry.
-fn plan_query(
-    c: Core,
-    enqueued_at: u64,
-    script: &[u8],
-    at: usize,
-    code: u8,
-    out: &mut [u8],
-    to: usize,
-) -> usize
-    ensures { Wrote to out.old out.new result }
+fn plan_query(c: Core, enqueued_at: u64, task: Task, out: &mut Output)
+    ensures { Writes out.old out.new }
 {
-    match code {
-        0x20 => put_deadline(out, to, code, c.next_send_deadline(enqueued_at)),
-        0x21 => put_deadline(out, to, code, c.next_batch_deadline()),
-        0x22 => put_yes(
+    let call = task.call;
+    match call {
+        Call::NextSendDeadline => put_done(out, call, c.next_send_deadline(enqueued_at)),
+        Call::NextBatchDeadline => put_done(out, call, c.next_batch_deadline()),
+        Call::BatchDeadlineElapsed => put_done(
             out,
-            to,
-            code,
-            elapsed(u64_at(script, behind(at, 1)), c.next_batch_deadline()),
+            call,
+            elapsed(task.arguments.get(), c.next_batch_deadline()),
         ),
-        0x23 => put_yes(
+        Call::CanAddToBatch => put_done(
             out,
-            to,
-            code,
-            c.can_add_to_batch(
-                usize_at(script, behind(at, 1)),
-                i32_at(script, behind(at, 9)),
-            ),
+            call,
+            c.can_add_to_batch(task.arguments.get(), task.arguments.behind(8).get()),
         ),
-        0x24 => {
-            let rings = c.rings;
-            put_len(out, to, code, outbound_len_of(rings))
-        }
-        _ => {
-            let counters = c.counters;
-            put_stats(out, to, code, stats_of(counters, c.rings.pending.len))
-        }
+        Call::OutboundLen => put_done(out, call, outbound_len_of(c.rings)),
+        _ => put_done(out, call, stats_of(c.counters, c.rings.pending.len)),
     }
 }
 
-pub(crate) fn plan(
-    c: Core,
-    enqueued_at: u64,
-    script: &[u8],
-    at: usize,
-    code: u8,
-    out: &mut [u8],
-    to: usize,
-) -> Planned
-    ensures { Plans to out.old out.new result }
+pub(crate) fn plan(c: Core, enqueued_at: u64, task: Task, out: &mut Output) -> Planned
+    ensures { Writes out.old out.new }
 {
-    match code {
-        0x03 => plan_flush(c, script, at, code, out, to),
-        0x0D => scalars(
-            c.set_initial_sequence_id(u64_at(script, behind(at, 1))),
-            put_status(out, to, code, 0),
-        ),
-        0x10 => plan_name(c, script, at, code, out, to),
-        0x11..=0x18 => plan_set(c, script, at, code, out, to),
-        0x19 => scalars(c.close(), put_status(out, to, code, 0)),
-        _ => scalars(c, plan_query(c, enqueued_at, script, at, code, out, to)),
+    match task.call {
+        Call::FlushBatch => plan_flush(c, task, out),
+        Call::SetInitialSequenceId => {
+            put_done(out, task.call, ());
+            scalars(c.set_initial_sequence_id(task.arguments.get()))
+        }
+        Call::SetName => scalars(plan_set(c, c.set_name(task.name()), task.call, out)),
+        Call::SetMaxMessageSize
+        | Call::SetMaxBatchSizeBytes
+        | Call::SetMaxMessagesInBatch
+        | Call::SetBatchingEnabled
+        | Call::SetChunkingEnabled
+        | Call::SetSendTimeout
+        | Call::SetBatchingMaxPublishDelay
+        | Call::SetBrokerReady => { scalars(plan_set(c, c.set(task.setting()), task.call, out)) }
+        Call::Close => {
+            put_done(out, task.call, ());
+            scalars(c.close())
+        }
+        _ => {
+            plan_query(c, enqueued_at, task, out);
+            scalars(c)
+        }
     }
 }
 
 // ---- receipts and errors ----
 
 // The ids once an entry has left by a receipt or by an error.
-pub(crate) fn settled_ids(ids: SequenceIds, code: u8, id: u64) -> SequenceIds {
-    let answer = if code == 0x05 {
-        Ok(())
+pub(crate) fn settled_ids(ids: SequenceIds, call: Call, id: u64) -> SequenceIds {
+    if call == Call::ApplyReceipt {
+        published_ids(ids, id)
     } else {
-        Err(ProducerError::NotAnswerable)
-    };
-    published_ids(ids, answer, id)
+        ids
+    }
 }
 
 // What an answer has in front of the entry that left: the message id of a receipt, or the error's code.
-pub(crate) fn put_settled(script: &[u8], at: usize, code: u8, out: &mut [u8], to: usize) -> usize
-    ensures { Wrote to out.old out.new result }
+pub(crate) fn put_settled(task: Task, out: &mut Output)
+    ensures { Writes out.old out.new }
 {
-    let status = put_status(out, to, code, 0);
-    if code == 0x05 {
-        let data = maybe_id_data_at(script, behind(at, 17));
-        let message_id = MessageId::of_receipt(data);
-        put_message_id(out, status, message_id)
+    if task.call == Call::ApplyReceipt {
+        let receipt: CommandSendReceipt = task.arguments.get();
+        put_done(out, task.call, MessageId::of_receipt(receipt.message_id));
     } else {
-        put_i32(out, status, i32_at(script, behind(at, 17)))
+        let err: CommandSendError = task.arguments.get();
+        put_done(out, task.call, err.error);
     }
 }

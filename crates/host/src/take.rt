@@ -1,97 +1,91 @@
 // The take, with the output itself as the buffer: the payload stands 10 bytes behind the answer's start.
-ghost use Rattle.std.specs.Prelude.{◌+◌, ◌-◌, ◌≤◌, length};
-ghost use Rattle.script.specs.Output.{Wrote};
+ghost use Rattle.std.specs.Prelude.{◌≡◌, ◌+◌, ◌-◌, ◌≤◌, length};
+ghost use Rattle.script.specs.Output.{Wrote, Writes};
 ghost use Rattle.host.specs.Framing.{Completes, taken};
 
-use crate::call::Called;
+use crate::task::Task;
 use producer::state::ProducerState;
-use rules::numbers::at_most;
-use script::answer::{put_command, put_metadata, put_refusal, put_status};
-use script::read::{behind, lent_of, u64_at, usize_at};
-use script::write::put_usize;
+use script::answer::{put_done, put_metadata};
+use script::operation::Call;
+use script::write::Output;
 use types::error::ProducerError;
 use types::outbound::OutboundFrame;
 
-pub(crate) const CODE: u8 = 0x04;
+// The part of the output that a take is lent.
+#[derive(Clone, Copy)]
+pub(crate) struct Buffer {
+    pub start: usize,
+    pub end: usize,
+}
 
-// A place `n` further on, or the last there is.
-pub(crate) fn up_to(len: usize, at: usize, n: usize) -> usize
-    requires { at ≤ len }
-    ensures { (at ≤ result) × (result ≤ len) }
+// The payload behind the head of a frame's answer, as far as the output goes.
+pub(crate) fn buffer_of(task: Task, out: &Output) -> Buffer
+    requires { out.now.at ≤ length out.now.bytes.now }
+    ensures behind { out.now.at ≤ result.start }
+    ensures onward { result.start ≤ result.end }
+    ensures inside { result.end ≤ length out.now.bytes.now }
 {
-    if n <= len - at { at + n } else { len }
+    let len = out.bytes.len();
+    let start = out.at.saturating_add(10).min(len);
+    let end = start.saturating_add(task.arguments.get()).min(len);
+    Buffer { start, end }
 }
 
 // The head of a frame's answer, into the bytes before its payload.
 fn put_frame_head(out: &mut [u8], n: usize) -> usize
     ensures { Wrote 0 out.old out.new result }
 {
-    let to = put_status(out, 0, CODE, 0);
-    put_usize(out, to, n)
+    let mut head = Output::new(out);
+    put_done(&mut head, Call::NextOutboundFrame, n);
+    head.at
 }
 
 // A frame whose payload, `n` bytes, stands from `start` on already.
 pub(crate) fn put_frame(
-    out: &mut [u8],
-    at: usize,
+    out: &mut Output,
     start: usize,
     n: usize,
     store: &[u8],
     frame: OutboundFrame,
-) -> usize
-    requires { (at ≤ start) × (start + n ≤ length out.old) }
-    ensures { Completes at start n out.old out.new result }
+)
+    requires { (out.old.at ≤ start) × (start + n ≤ length out.old.bytes.now) }
+    ensures same_reference { out.new.bytes.ghost_name ≡ out.old.bytes.ghost_name }
+    ensures completes { Completes out.old.at start n out.old.bytes.now out.new.bytes.now out.new.at }
 {
-    let command = frame.command;
-    let metadata = frame.metadata;
-    put_frame_head(&mut out[at..start], n);
-    let behind = start + n;
-    let to = put_command(out, behind, command);
-    put_metadata(out, to, store, metadata)
+    put_frame_head(&mut out.bytes[out.at..start], n);
+    out.at = start + n;
+    out.put(frame.command);
+    put_metadata(out, store, frame.metadata);
 }
 
-// The answer of a take that was lent the output from `start` to `end` as its buffer.
+// The answer of a take that was lent a part of the output as its buffer.
 pub(crate) fn put_taken(
-    out: &mut [u8],
-    at: usize,
-    start: usize,
-    end: usize,
+    out: &mut Output,
+    buffer: Buffer,
     store: &[u8],
-    answer: Result<(), ProducerError>,
-    frame: OutboundFrame,
-) -> usize
-    requires { (at ≤ start) × ((start ≤ end) × (end ≤ length out.old)) }
-    ensures { Completes at start (taken answer frame.payload_len (end - start)) out.old out.new result }
+    answer: Result<OutboundFrame, ProducerError>,
+)
+    requires { (out.old.at ≤ buffer.start) × ((buffer.start ≤ buffer.end) × (buffer.end ≤ length out.old.bytes.now)) }
+    ensures same_reference { out.new.bytes.ghost_name ≡ out.old.bytes.ghost_name }
+    ensures completes { Completes out.old.at buffer.start (taken answer (buffer.end - buffer.start)) out.old.bytes.now out.new.bytes.now out.new.at }
 {
     match answer {
-        Ok(()) => {
-            let n = at_most(frame.payload_len, end - start);
-            put_frame(out, at, start, n, store, frame)
+        Ok(frame) => {
+            let n = frame.payload_len.min(buffer.end - buffer.start);
+            put_frame(out, buffer.start, n, store, frame);
         }
-        Err(e) => put_refusal(out, at, CODE, e),
+        Err(e) => out.put((Call::NextOutboundFrame, e)),
     }
 }
 
 #[inline(never)]
-pub(crate) fn call_take(
-    s: &ProducerState,
-    script: &[u8],
-    at: usize,
-    store: &[u8],
-    out: &mut [u8],
-    to: usize,
-) -> Called
-    requires { to ≤ length out.old }
-    ensures { Wrote to out.old out.new result.to }
+pub(crate) fn call_take(s: &ProducerState, task: Task, out: &mut Output) -> ProducerState
+    requires { out.old.at ≤ length out.old.bytes.now }
+    ensures { Writes out.old out.new }
 {
-    let lent = lent_of(store, u64_at(script, behind(at, 9)));
-    let start = up_to(out.len(), to, 10);
-    let end = up_to(out.len(), start, usize_at(script, behind(at, 1)));
-    let r = s.next_outbound_frame(lent, &mut out[start..end]);
-    let answer = r.answer;
-    let frame = r.frame;
-    Called {
-        state: r.state,
-        to: put_taken(out, to, start, end, lent, answer, frame),
-    }
+    let lent = task.lent_to_take();
+    let buffer = buffer_of(task, out);
+    let r = s.next_outbound_frame(lent, &mut out.bytes[buffer.start..buffer.end]);
+    put_taken(out, buffer, lent, r.answer);
+    r.state
 }

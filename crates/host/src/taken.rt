@@ -1,99 +1,69 @@
 // The take by its plan: of a frame with a message or a chunk as a whole, of a batch frame its messages one by one. The output
 // itself is the buffer, as in `take`.
-ghost use Rattle.std.specs.Prelude.{◌≡◌, ◌≤◌, true, length};
-ghost use Rattle.script.specs.Output.{Wrote};
+ghost use Rattle.std.specs.Prelude.{◌≡◌, ◌≤◌, true, length, is_ok};
+ghost use Rattle.script.specs.Output.{Writes};
 ghost use Rattle.host.specs.Lays.{Message, Lays};
 
-use crate::take::{put_taken, up_to};
+use crate::take::{buffer_of, put_taken};
+use crate::task::Task;
 use frames::inside::single_inside;
 use frames::span::{Span, message_span};
 use plans::state::Core;
 use plans::take::TakePlan;
 use rules::bounds::part_in;
-use script::read::{behind, lent_of, u64_at, usize_at};
+use script::write::Output;
+use types::error::ProducerError;
 use types::frame::FrameRecord;
 use types::message::{Part, SingleMessage};
 use wire::batch::{item_len, put_item};
 use wire::copy::copy;
 
-// What then stands in the front record's slot, the scalars, and the place behind the answer.
-#[derive(Clone, Copy)]
-pub(crate) struct Taken {
-    pub slot: FrameRecord,
-    pub core: Core,
-    pub to: usize,
-}
-
-// A refusal leaves the record and the scalars.
-fn finish(c: Core, front: FrameRecord, plan: TakePlan, to: usize) -> Taken
-    ensures { result.to ≡ to }
+// The payload of a frame that goes out.
+fn lay_message(
+    buffer: &mut [u8],
+    store: &[u8],
+    span: Span,
+    plan: Result<TakePlan, ProducerError>,
+) -> usize
+    requires { is_ok plan ≡ true → Message store.now span buffer.old }
+    ensures { Lays (is_ok plan) span.len buffer.old buffer.new result }
 {
-    if plan.done {
-        let slot = plan.slot;
-        let core = plan.core;
-        Taken {
-            slot: slot,
-            core: core,
-            to: to,
-        }
-    } else {
-        Taken {
-            slot: front,
-            core: c,
-            to: to,
-        }
-    }
-}
-
-fn lay_message(buffer: &mut [u8], store: &[u8], span: Span, done: bool) -> usize
-    requires { done ≡ true → Message store.now span buffer.old }
-    ensures { Lays done span.len buffer.old buffer.new result }
-{
-    if done {
-        let from = span.start;
-        let until = from + span.len;
-        copy(buffer, &store[from..until])
+    if plan.is_ok() {
+        copy(buffer, &store[span.start..span.start + span.len])
     } else {
         0
     }
 }
 
+// What then stands in the front record's slot, and the scalars; nothing where the take is refused.
 pub(crate) fn take_message(
     c: Core,
     front: FrameRecord,
-    script: &[u8],
-    at: usize,
-    store: &[u8],
-    out: &mut [u8],
-    to: usize,
-) -> Taken
-    requires { to ≤ length out.old }
-    ensures { Wrote to out.old out.new result.to }
+    task: Task,
+    out: &mut Output,
+) -> Option<TakePlan>
+    requires { out.old.at ≤ length out.old.bytes.now }
+    ensures { Writes out.old out.new }
 {
-    let lent = lent_of(store, u64_at(script, behind(at, 9)));
-    let start = up_to(out.len(), to, 10);
-    let end = up_to(out.len(), start, usize_at(script, behind(at, 1)));
+    let lent = task.lent_to_take();
+    let buffer = buffer_of(task, out);
     let span = message_span(front, lent.len());
-    let plan = c.plan_take(front, span, 0, end - start);
-    let answer = plan.answer;
-    let frame = plan.frame;
-    lay_message(&mut out[start..end], lent, span, plan.done);
-    let behind_answer = put_taken(out, to, start, end, lent, answer, frame);
-    finish(c, front, plan, behind_answer)
+    let plan = c.plan_take(front, span, 0, buffer.end - buffer.start);
+    lay_message(&mut out.bytes[buffer.start..buffer.end], lent, span, plan);
+    put_taken(out, buffer, lent, plan.map(|p| p.frame));
+    plan.ok()
 }
 
 // One message of a batch, as the writers of `script` do it: where it has no room, or not all of it lies in the store, nothing is
 // written. Of a frame that goes out every message has been found to lie there and to fit.
-pub(crate) fn put_held(out: &mut [u8], at: usize, store: &[u8], m: SingleMessage) -> usize
-    ensures { Wrote at out.old out.new result }
+pub(crate) fn put_held(out: &mut Output, store: &[u8], m: SingleMessage)
+    ensures { Writes out.old out.new }
 {
     let room = Part {
-        start: at,
+        start: out.at,
         len: item_len(m),
     };
-    if single_inside(m, store.len()) & part_in(out.len(), room) {
-        put_item(out, at, store, m)
-    } else {
-        at
+    if single_inside(m, store.len()) & part_in(out.bytes.len(), room) {
+        out.at = put_item(out.bytes, out.at, store, m);
     }
 }

@@ -4,11 +4,11 @@ ghost use Rattle.queue.specs.Queue.{new_queue};
 ghost use Rattle.producer.specs.View.{view};
 
 use plans::state::Core;
-use rules::blank::no_message;
-use types::entry::{Publish, Replay};
+use rules::batch::single_of;
+use rules::blank::{no_message, no_publish};
+use types::entry::Publish;
 use types::frame::{FrameKind, FrameRecord, ProducerName};
-use types::memory_limit::MemoryReservation;
-use types::message::{Part, SingleMessage};
+use types::message::SingleMessage;
 use types::types::{ProducerHandle, SequenceId};
 
 #[derive(Clone, Copy)]
@@ -29,42 +29,22 @@ impl ProducerState {
     pub fn new(handle: ProducerHandle) -> ProducerState
         ensures { view result ≡ new_queue handle }
     {
-        let message = no_message();
-        let name = ProducerName {
-            bytes: [0; 64],
-            len: 0,
-        };
         let frame = FrameRecord {
             sequence_id: SequenceId(0),
             publish_time: 0,
-            producer_name: name,
+            producer_name: ProducerName {
+                bytes: [0; 64],
+                len: 0,
+            },
             uuid: [0; 16],
-            message: message,
+            message: no_message(),
             kind: FrameKind::Single,
-        };
-        let single = SingleMessage {
-            payload: Part { start: 0, len: 0 },
-            partition_key: None,
-            ordering_key: None,
-            event_time: None,
-            null_value: None,
-            null_partition_key: None,
-        };
-        let publish = Publish {
-            num_messages: 0,
-            enqueued_at: 0,
-            reservation: MemoryReservation { bytes: 0 },
-            publish_time: 0,
-            producer_name: name,
-            uuid: [0; 16],
-            message: message,
-            replay: Replay::Batched,
         };
         ProducerState {
             core: Core::new(handle),
             outbound: [frame; 1024],
-            held: [single; 512],
-            pending: [publish; 256],
+            held: [single_of(no_message()); 512],
+            pending: [no_publish(); 256],
             pending_ids: [0; 256],
             pending_marks: [0; 256],
         }

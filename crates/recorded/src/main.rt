@@ -5,8 +5,6 @@
 ghost use Rattle.std.specs.Prelude.{◌≤◌, length};
 
 use host::run::run_script;
-use rules::numbers::at_most;
-use script::read::{byte_at, u32_at};
 use std::io;
 use std::io::Read;
 
@@ -32,35 +30,24 @@ fn read_full(input: &mut impl Read, buffer: &mut [u8]) -> usize
 fn read_u32(input: &mut impl Read) -> usize {
     let mut four = [0u8; 4];
     read_full(input, &mut four);
-    u32_at(&four, 0) as usize
+    u32::from_le_bytes(four) as usize
 }
 
 // Reads so many bytes as stand before them, to the start of a buffer.
 fn read_bytes(input: &mut impl Read, buffer: &mut [u8]) -> usize
     ensures { result ≤ length buffer.old }
 {
-    let n = at_most(read_u32(input), buffer.len());
-    read_full(input, &mut buffer[0..n]);
+    let n = read_u32(input).min(buffer.len());
+    read_full(input, &mut buffer[..n]);
     n
 }
 
-// The first n bytes of one and the first m of another.
-fn same(a: &[u8], n: usize, b: &[u8], m: usize) -> bool {
-    let mut all = n == m;
-    let mut i: usize = 0;
-    while i < n {
-        all = all & (byte_at(a, i) == byte_at(b, i));
-        i += 1;
-    }
-    all
-}
-
 fn agrees(input: &mut impl Read, script: &mut [u8], answers: &mut [u8], out: &mut [u8]) -> bool {
-    let room = at_most(read_u32(input), out.len());
+    let room = read_u32(input).min(out.len());
     let n = read_bytes(input, script);
     let m = read_bytes(input, answers);
-    let k = run_script(&script[0..n], &mut out[0..room]);
-    same(answers, m, out, k)
+    let k = run_script(&script[..n], &mut out[..room]);
+    answers[..m] == out[..k]
 }
 
 fn replay(
@@ -72,20 +59,14 @@ fn replay(
     count: usize,
 ) -> io::Result<u64> {
     let mut good: u64 = 0;
-    let mut i: usize = 0;
-    while i < count {
+    for i in 0..count {
         if agrees(input, script, answers, out) {
-            good = next(good);
+            good = good.saturating_add(1);
         } else {
             line(rt, i as u64)?;
         }
-        i += 1;
     }
     Ok(good)
-}
-
-fn next(n: u64) -> u64 {
-    if n < u64::MAX { n + 1 } else { n }
 }
 
 fn main(rt: HostRuntime) -> io::Result<()> {

@@ -1,3 +1,4 @@
 pub mod Batch
 pub mod Chunks
 pub mod Rings
+pub mod Blank

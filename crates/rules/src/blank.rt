@@ -1,7 +1,11 @@
 // Values that mean nothing: what a slot holds before its first use, and a batch record where a message would stand.
 ghost use Rattle.std.specs.Prelude.{◌≡◌};
 ghost use Rattle.queue.specs.Batch.{no_message};
+ghost use Rattle.rules.specs.Blank.{no_publish};
 
+use types::entry::{Publish, Replay};
+use types::frame::ProducerName;
+use types::memory_limit::MemoryReservation;
 use types::message::{OutgoingMessage, Part};
 
 pub fn no_message() -> OutgoingMessage
@@ -22,5 +26,23 @@ pub fn no_message() -> OutgoingMessage
         num_messages: 0,
         txn_id: None,
         source_message_id: None,
+    }
+}
+
+pub fn no_publish() -> Publish
+    ensures { result ≡ no_publish }
+{
+    Publish {
+        num_messages: 0,
+        enqueued_at: 0,
+        reservation: MemoryReservation { bytes: 0 },
+        publish_time: 0,
+        producer_name: ProducerName {
+            bytes: [0; 64],
+            len: 0,
+        },
+        uuid: [0; 16],
+        message: no_message(),
+        replay: Replay::Batched,
     }
 }

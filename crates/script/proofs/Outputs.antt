@@ -1,9 +1,9 @@
--- Runs of writes: none, a byte, a stretch that is passed over, one write after another.
-use Rattle.std.specs.Prelude.{◌≡◌, ℕ, ◌+◌, ◌-◌, ◌<◌, ◌≤◌, max, List, length, take, drop, set}
-use mathlib.Core.Path.{refl, ap, sym, ◌∙◌}
-use native.Mathlib.Omega.{arith}
-use lib.ListN.{length-set}
-use lib.Seq.{take-take, drop-drop, take-set-le, drop-set-lt}
+-- Runs of writes: none, a stretch that is passed over or stored, one write after another.
+use Rattle.std.specs.Prelude.{◌≡◌, ℕ, ◌+◌, ◌-◌, ◌≤◌, max, List, length, take, drop}
+use Rattle.std.proofs.lemmas.Slice.{drop-put_mid}
+use borrow.Rule.Slice.PartMut.{put_mid, mid_of, same_len_mid, take_put}
+use Rattle.std.proofs.Common.{refl, ap, sym, ◌∙◌, arith, length-drop, length-take-le}
+use lib.Seq.{take-take, drop-drop}
 use Rattle.script.specs.Output.{Wrote}
 
 -- nothing is written; a stretch is passed over
@@ -13,15 +13,16 @@ passed h k = record { onward = h; within = k; same = refl; front = refl; rest = 
 pub nothing : {d : List ℕ} {at : ℕ} → Wrote at d d at
 nothing = passed (omega arith) (omega arith)
 
--- a byte is stored
-pub stored : (d : List ℕ) (at v : ℕ) → at < length d → Wrote at d (set d at v) (at + 1)
-stored d at v h =
+-- a stretch of bytes is stored
+pub pasted : (d ys : List ℕ) (at n : ℕ) → at + n ≤ length d → length ys ≡ n → Wrote at d (put_mid at n d ys) (at + n)
+pasted d ys at n h e =
+    let m : length (mid_of at n d) ≡ n = length-take-le n (drop at d) (rw length-drop (omega arith)) in
     record {
       onward = omega arith;
       within = omega arith;
-      same = length-set d at v;
-      front = take-set-le at d at v (omega arith);
-      rest = drop-set-lt (at + 1) d at v (omega arith);
+      same = same_len_mid at n d ys (e ∙ sym m);
+      front = take_put at n d ys (omega arith);
+      rest = drop-put_mid at n d ys (at + n) (omega arith) (omega arith) e;
     }
 
 -- less of the front and of the rest

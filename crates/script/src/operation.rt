@@ -1,93 +1,169 @@
 // The operations of a script: how long each is, whether it is well formed, and the most bytes that its answer can have
 // (docs/SCRIPT.md, 'The script').
-use crate::read::{behind, byte_at, u32_at, u64_at};
+ghost use Rattle.std.specs.Prelude.{◌*◌, ◌<◌, ◌≤◌, IfSome};
+ghost use Rattle.script.specs.Calls.{Decodes};
 
-// Bytes with the code, of an operation without a name or a table; of those, up to their count. 0 for a code that is not there.
-fn fixed_size(code: u8) -> usize {
-    match code {
-        0x01 => 213,
-        0x02 => 205,
-        0x03 => 17,
-        0x04 => 17,
-        0x05 => 49,
-        0x06 => 21,
-        0x07 => 13,
-        0x08 => 5,
-        0x09 => 9,
-        0x0A => 5,
-        0x0B => 5,
-        0x0C => 1,
-        0x0D => 9,
-        0x10 => 5,
-        0x11..=0x13 => 9,
-        0x14..=0x15 => 2,
-        0x16..=0x17 => 10,
-        0x18 => 2,
-        0x19 => 1,
-        0x20..=0x21 => 1,
-        0x22 => 9,
-        0x23 => 13,
-        0x24..=0x26 => 1,
-        _ => 0,
-    }
+use crate::read::Place;
+use crate::write::{Output, Put};
+use types::types::ProducerHandle;
+
+// What an operation calls, with its code.
+#[derive(Clone, Copy, PartialEq, Eq)]
+pub enum Call {
+    QueueSendReserved = 0x01,
+    QueueSend = 0x02,
+    FlushBatch = 0x03,
+    NextOutboundFrame = 0x04,
+    ApplyReceipt = 0x05,
+    ApplySendError = 0x06,
+    DrainTimedOutSends = 0x07,
+    DrainPendingSends = 0x08,
+    SnapshotPendingSends = 0x09,
+    ReplaySnapshots = 0x0A,
+    ReplayLastSnapshot = 0x0B,
+    ReplayPendingOutbound = 0x0C,
+    SetInitialSequenceId = 0x0D,
+    SetName = 0x10,
+    SetMaxMessageSize = 0x11,
+    SetMaxBatchSizeBytes = 0x12,
+    SetMaxMessagesInBatch = 0x13,
+    SetBatchingEnabled = 0x14,
+    SetChunkingEnabled = 0x15,
+    SetSendTimeout = 0x16,
+    SetBatchingMaxPublishDelay = 0x17,
+    SetBrokerReady = 0x18,
+    Close = 0x19,
+    NextSendDeadline = 0x20,
+    NextBatchDeadline = 0x21,
+    BatchDeadlineElapsed = 0x22,
+    CanAddToBatch = 0x23,
+    OutboundLen = 0x24,
+    Stats = 0x25,
+    Dump = 0x26,
 }
 
-// Bytes of the name or of the table's entries, which follow.
-fn more_size(code: u8, count: u32) -> usize {
-    match code {
-        0x0A => count as usize * 290,
-        0x10 => count as usize,
-        _ => 0,
-    }
-}
+// A code of no operation.
+#[derive(Clone, Copy, PartialEq, Eq)]
+pub struct UnknownCode(pub u8);
 
-fn left_of(script: &[u8], at: usize) -> usize {
-    if at < script.len() {
-        script.len() - at
-    } else {
-        0
-    }
-}
+impl TryFrom<u8> for Call {
+    type Error = UnknownCode;
 
-// The size of the operation, 0 where it is malformed for its code, its count or the script's end.
-fn size_of(script: &[u8], at: usize) -> usize {
-    let code = byte_at(script, at);
-    let fixed = fixed_size(code);
-    let count = u32_at(script, behind(at, 1));
-    let all = behind(fixed, more_size(code, count));
-    let over = (code == 0x0A) & (257 < count);
-    let left = left_of(script, at);
-    if (fixed == 0) | over | (left < all) {
-        0
-    } else {
-        all
-    }
-}
+    ghost try_from_gives = { Decodes };
 
-fn flag(script: &[u8], at: usize) -> bool {
-    byte_at(script, at) <= 1
-}
-
-// Where a message does not lie within the script, the operation is malformed for its size.
-fn message_well_formed(script: &[u8], at: usize) -> bool {
-    if at < script.len() {
-        if 164 <= script.len() - at {
-            (script[at + 16] <= 1)
-                & (script[at + 33] <= 1)
-                & (script[at + 50] <= 1)
-                & (script[at + 83] <= 1)
-                & maybe_flag(script[at + 92], script[at + 93])
-                & maybe_flag(script[at + 94], script[at + 95])
-                & (script[at + 96] <= 1)
-                & (script[at + 105] <= 1)
-                & (script[at + 118] <= 1)
-                & (script[at + 135] <= 1)
-        } else {
-            false
+    fn try_from(code: u8) -> Result<Self, UnknownCode> {
+        match code {
+            0x01 => Ok(Call::QueueSendReserved),
+            0x02 => Ok(Call::QueueSend),
+            0x03 => Ok(Call::FlushBatch),
+            0x04 => Ok(Call::NextOutboundFrame),
+            0x05 => Ok(Call::ApplyReceipt),
+            0x06 => Ok(Call::ApplySendError),
+            0x07 => Ok(Call::DrainTimedOutSends),
+            0x08 => Ok(Call::DrainPendingSends),
+            0x09 => Ok(Call::SnapshotPendingSends),
+            0x0A => Ok(Call::ReplaySnapshots),
+            0x0B => Ok(Call::ReplayLastSnapshot),
+            0x0C => Ok(Call::ReplayPendingOutbound),
+            0x0D => Ok(Call::SetInitialSequenceId),
+            0x10 => Ok(Call::SetName),
+            0x11 => Ok(Call::SetMaxMessageSize),
+            0x12 => Ok(Call::SetMaxBatchSizeBytes),
+            0x13 => Ok(Call::SetMaxMessagesInBatch),
+            0x14 => Ok(Call::SetBatchingEnabled),
+            0x15 => Ok(Call::SetChunkingEnabled),
+            0x16 => Ok(Call::SetSendTimeout),
+            0x17 => Ok(Call::SetBatchingMaxPublishDelay),
+            0x18 => Ok(Call::SetBrokerReady),
+            0x19 => Ok(Call::Close),
+            0x20 => Ok(Call::NextSendDeadline),
+            0x21 => Ok(Call::NextBatchDeadline),
+            0x22 => Ok(Call::BatchDeadlineElapsed),
+            0x23 => Ok(Call::CanAddToBatch),
+            0x24 => Ok(Call::OutboundLen),
+            0x25 => Ok(Call::Stats),
+            0x26 => Ok(Call::Dump),
+            _ => Err(UnknownCode(code)),
         }
-    } else {
-        false
     }
+}
+
+impl Put for Call {
+    fn put(self, out: &mut Output) {
+        out.put(self as u8);
+    }
+}
+
+// Bytes with the code, of a call without a name or a table; of those, up to their count.
+fn fixed_size(call: Call) -> usize
+    ensures { 0 < result }
+{
+    match call {
+        Call::QueueSendReserved => 213,
+        Call::QueueSend => 205,
+        Call::FlushBatch | Call::NextOutboundFrame => 17,
+        Call::ApplyReceipt => 49,
+        Call::ApplySendError => 21,
+        Call::DrainTimedOutSends | Call::CanAddToBatch => 13,
+        Call::DrainPendingSends
+        | Call::ReplaySnapshots
+        | Call::ReplayLastSnapshot
+        | Call::SetName => 5,
+        Call::SnapshotPendingSends
+        | Call::SetInitialSequenceId
+        | Call::SetMaxMessageSize
+        | Call::SetMaxBatchSizeBytes
+        | Call::SetMaxMessagesInBatch
+        | Call::BatchDeadlineElapsed => 9,
+        Call::SetSendTimeout | Call::SetBatchingMaxPublishDelay => 10,
+        Call::SetBatchingEnabled | Call::SetChunkingEnabled | Call::SetBrokerReady => 2,
+        _ => 1,
+    }
+}
+
+// An entry of an explicit table has so many bytes.
+const ENTRY: usize = 290;
+
+const MOST_ENTRIES: usize = 257;
+
+// Bytes of the name or of the table's entries, which follow. A table can have too many.
+fn more_size(call: Call, count: usize) -> Option<usize> {
+    match call {
+        Call::ReplaySnapshots if MOST_ENTRIES < count => None,
+        Call::ReplaySnapshots => Some(ENTRY * count),
+        Call::SetName => Some(count),
+        _ => Some(0),
+    }
+}
+
+// A table's entries, at their count.
+fn entries(place: Place) -> &[u8] {
+    place
+        .behind(4)
+        .bytes(ENTRY.saturating_mul(place.get::<u32>() as usize))
+}
+
+// One test for all the bytes of a message, so that none is tested by itself.
+fn message_well_formed(place: Place) -> bool {
+    match place.rest().first_chunk::<164>() {
+        None => false,
+        Some(m) => {
+            (m[16] <= 1)
+                & (m[33] <= 1)
+                & (m[50] <= 1)
+                & (m[83] <= 1)
+                & maybe_flag(m[92], m[93])
+                & maybe_flag(m[94], m[95])
+                & (m[96] <= 1)
+                & (m[105] <= 1)
+                & (m[118] <= 1)
+                & (m[135] <= 1)
+        }
+    }
+}
+
+fn flag(place: Place) -> bool {
+    place.get::<u8>() <= 1
 }
 
 // A mark that may be absent: what is skipped may be anything.
@@ -95,70 +171,57 @@ fn maybe_flag(present: u8, mark: u8) -> bool {
     (present == 0) | ((present == 1) & (mark <= 1))
 }
 
-fn receipt_well_formed(script: &[u8], at: usize) -> bool {
-    let inner = flag(script, behind(at, 17))
-        & flag(script, behind(at, 22))
-        & flag(script, behind(at, 27));
-    flag(script, at) & ((byte_at(script, at) == 0) | inner)
+fn receipt_well_formed(place: Place) -> bool {
+    let inner = flag(place.behind(17)) & flag(place.behind(22)) & flag(place.behind(27));
+    flag(place) & (!place.get::<bool>() | inner)
 }
 
-fn table_well_formed(script: &[u8], at: usize, size: usize) -> bool {
-    let mut well = true;
-    let count = size / 290;
-    let mut entry = behind(at, 5);
-    let mut i: usize = 0;
-    while i < count {
-        well = well
-            & (byte_at(script, behind(entry, 28)) <= 2)
-            & message_well_formed(script, behind(entry, 37));
-        entry = behind(entry, 290);
-        i += 1;
-    }
-    well
+fn entry_well_formed(place: Place) -> bool {
+    place.behind(28).get::<u8>() <= 2 && message_well_formed(place.behind(37))
 }
 
-fn arguments_well_formed(script: &[u8], at: usize, code: u8, size: usize) -> bool {
-    match code {
-        0x01..=0x02 => message_well_formed(script, behind(at, 1)),
-        0x05 => receipt_well_formed(script, behind(at, 17)),
-        0x0A => table_well_formed(script, at, size),
-        0x14..=0x18 => flag(script, behind(at, 1)),
+fn arguments_well_formed(place: Place, call: Call) -> bool {
+    let arguments = place.behind(1);
+    match call {
+        Call::QueueSendReserved | Call::QueueSend => message_well_formed(arguments),
+        Call::ApplyReceipt => receipt_well_formed(place.behind(17)),
+        Call::ReplaySnapshots => entries(arguments)
+            .chunks_exact(ENTRY)
+            .all(|entry| entry_well_formed(Place::start(entry))),
+        Call::SetBatchingEnabled
+        | Call::SetChunkingEnabled
+        | Call::SetSendTimeout
+        | Call::SetBatchingMaxPublishDelay
+        | Call::SetBrokerReady => flag(arguments),
         _ => true,
     }
 }
 
-fn add(x: u64, y: u64) -> u64 {
-    if x <= u64::MAX - y { x + y } else { u64::MAX }
-}
-
-fn entries(n: u64) -> u64 {
-    if n < 256 { n * 293 } else { 256 * 293 }
+fn entries_room(count: u64) -> u64
+    ensures { result ≤ 256 * 293 }
+{
+    count.min(256) * 293
 }
 
 // The most bytes of an answer.
-fn room_of(script: &[u8], at: usize, code: u8) -> u64 {
-    match code {
-        0x01..=0x02 => 18,
-        0x03 => 10,
-        0x04 => add(3383, u64_at(script, behind(at, 1))),
-        0x05 => 323,
-        0x06 => 299,
-        0x07 => add(6, entries(u32_at(script, behind(at, 9)) as u64)),
-        0x08 => add(6, entries(u32_at(script, behind(at, 1)) as u64)),
-        0x09 => {
-            add(
-                10,
-                entries(
-                    u32_at(script, behind(at, 1)) as u64 + u32_at(script, behind(at, 5)) as u64,
-                ),
-            )
+fn room_of(place: Place, call: Call) -> u64 {
+    let arguments = place.behind(1);
+    match call {
+        Call::QueueSendReserved | Call::QueueSend => 18,
+        Call::FlushBatch | Call::ReplayPendingOutbound | Call::OutboundLen => 10,
+        Call::NextOutboundFrame => arguments.get::<u64>().saturating_add(3383),
+        Call::ApplyReceipt => 323,
+        Call::ApplySendError => 299,
+        Call::DrainTimedOutSends => 6 + entries_room(place.behind(9).get::<u32>() as u64),
+        Call::DrainPendingSends => 6 + entries_room(arguments.get::<u32>() as u64),
+        Call::SnapshotPendingSends => {
+            let lengths = arguments.get::<u32>() as u64 + place.behind(5).get::<u32>() as u64;
+            10 + entries_room(lengths)
         }
-        0x0C => 10,
-        0x20..=0x21 => 11,
-        0x22..=0x23 => 3,
-        0x24 => 10,
-        0x25 => 42,
-        0x26 => 75542,
+        Call::NextSendDeadline | Call::NextBatchDeadline => 11,
+        Call::BatchDeadlineElapsed | Call::CanAddToBatch => 3,
+        Call::Stats => 42,
+        Call::Dump => 75542,
         _ => 2,
     }
 }
@@ -166,47 +229,54 @@ fn room_of(script: &[u8], at: usize, code: u8) -> u64 {
 // What is known of an operation before it is carried out.
 #[derive(Clone, Copy)]
 pub struct Operation {
-    pub code: u8,
-    // 0 where it is malformed.
+    pub call: Call,
     pub size: usize,
     pub room: u64,
 }
 
-pub fn operation_at(script: &[u8], at: usize) -> Operation {
-    let code = byte_at(script, at);
-    let size = size_of(script, at);
-    let well = arguments_well_formed(script, at, code, size);
-    Operation {
-        code: code,
-        size: if well { size } else { 0 },
-        room: room_of(script, at, code),
+// None of one that is malformed for its code, its count, its arguments or the script's end.
+pub fn operation_at(place: Place) -> Option<Operation>
+    ensures { IfSome result (λ o. 0 < o.size) }
+{
+    let call = Call::try_from(place.get::<u8>()).ok()?;
+    let count = place.behind(1).get::<u32>() as usize;
+    let size = fixed_size(call).saturating_add(more_size(call, count)?);
+    if size <= place.rest().len() && arguments_well_formed(place, call) {
+        Some(Operation {
+            call,
+            size,
+            room: room_of(place, call),
+        })
+    } else {
+        None
     }
 }
 
 #[derive(Clone, Copy)]
-pub struct Head {
-    pub well_formed: bool,
+pub struct Head<'a> {
     pub in_place: bool,
-    pub handle: u64,
-    // The store's length; it starts behind the head.
-    pub store_len: usize,
+    pub handle: ProducerHandle,
+    pub store: &'a [u8],
+    // Where the operations begin.
+    pub operations: Place<'a>,
 }
 
-pub const STORE: usize = 18;
+const STORE: usize = 18;
 
-// The head of a script: its mark, version, drive, handle and store.
-pub fn head_of(script: &[u8]) -> Head {
-    let mark = (byte_at(script, 0) == 0x50)
-        & (byte_at(script, 1) == 0x53)
-        & (byte_at(script, 2) == 0x51)
-        & (byte_at(script, 3) == 0x53)
-        & (byte_at(script, 4) == 1)
-        & flag(script, 5);
-    let len = u32_at(script, 14) as usize;
-    Head {
-        well_formed: mark & (STORE + len <= script.len()),
-        in_place: byte_at(script, 5) == 1,
-        handle: u64_at(script, 6),
-        store_len: len,
+// The head of a script: its mark, version, drive, handle and store. None of a malformed one.
+pub fn head_of(script: &[u8]) -> Option<Head<'_>> {
+    let start = Place::start(script);
+    let behind = STORE + start.behind(14).get::<u32>() as usize;
+    let store = script.get(STORE..behind)?;
+    let mark: [u8; 5] = start.get();
+    if mark == [0x50, 0x53, 0x51, 0x53, 1] && flag(start.behind(5)) {
+        Some(Head {
+            in_place: start.behind(5).get(),
+            handle: start.behind(6).get(),
+            store,
+            operations: start.behind(behind),
+        })
+    } else {
+        None
     }
 }

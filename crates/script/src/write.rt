@@ -1,297 +1,200 @@
-// The bytes of answers (docs/SCRIPT.md, 'Numbers and values'). Each writes at a place and gives the place behind; where there is
-// no room it writes nothing and gives the place itself.
-ghost use Rattle.script.specs.Output.{Wrote};
+// The bytes of answers (docs/SCRIPT.md, 'Numbers and values'). What has no room is not written.
+#![tactic(auto, using(crate::proofs::Writings::both))]
+
+ghost use Rattle.std.specs.Prelude.{◌≡◌};
+ghost use Rattle.script.specs.Output.{Writes};
 
 use types::message::Part;
-use types::signed::bits_of;
 use types::txn::TxnId;
-use types::types::MessageId;
+use types::types::{MessageId, MessageIdData};
 
-pub fn put_u8(out: &mut [u8], at: usize, v: u8) -> usize
-    ensures { Wrote at out.old out.new result }
-{
-    if at < out.len() {
-        out[at] = v;
-        at + 1
-    } else {
-        at
+// An output, and the place up to which it is written.
+#[derive(Drop)]
+pub struct Output<'a> {
+    pub bytes: &'a mut [u8],
+    pub at: usize,
+}
+
+// What answers are made of.
+pub trait Put {
+    fn put(self, out: &mut Output)
+        ensures { Writes out.old out.new };
+}
+
+impl<'a> Output<'a> {
+    pub fn new(bytes: &'a mut [u8]) -> Output<'a>
+        ensures same_reference { result.bytes.ghost_name ≡ bytes.entry.ghost_name }
+        ensures bytes { result.bytes.now ≡ bytes.entry.now }
+        ensures at { result.at ≡ 0 }
+    {
+        Output { bytes, at: 0 }
     }
-}
 
-pub fn put_bool(out: &mut [u8], at: usize, v: bool) -> usize
-    ensures { Wrote at out.old out.new result }
-{
-    put_u8(out, at, if v { 1 } else { 0 })
-}
-
-pub fn put_u32(out: &mut [u8], at: usize, v: u32) -> usize
-    ensures { Wrote at out.old out.new result }
-{
-    if at < out.len() {
-        if 4 <= out.len() - at {
-            out[at] = (v % 256) as u8;
-            out[at + 1] = (v / 0x100 % 256) as u8;
-            out[at + 2] = (v / 0x1_0000 % 256) as u8;
-            out[at + 3] = (v / 0x100_0000 % 256) as u8;
-            at + 4
-        } else {
-            at
+    // All of some bytes, without their length.
+    pub fn put_raw(&mut self, bytes: &[u8])
+        ensures { Writes self.old self.new }
+    {
+        if self.at <= self.bytes.len() && bytes.len() <= self.bytes.len() - self.at {
+            let end = self.at + bytes.len();
+            self.bytes[self.at..end].copy_from_slice(bytes);
+            self.at = end;
         }
-    } else {
-        at
+    }
+
+    pub fn put<T: Put>(&mut self, v: T)
+        ensures { Writes self.old self.new }
+    {
+        v.put(self);
     }
 }
 
-pub fn put_u64(out: &mut [u8], at: usize, v: u64) -> usize
-    ensures { Wrote at out.old out.new result }
-{
-    let low = put_u32(out, at, (v % 0x1_0000_0000) as u32);
-    put_u32(out, low, (v / 0x1_0000_0000) as u32)
+impl Put for () {
+    fn put(self, _out: &mut Output) {}
 }
 
-pub fn put_usize(out: &mut [u8], at: usize, v: usize) -> usize
-    ensures { Wrote at out.old out.new result }
-{
-    put_u64(out, at, v as u64)
-}
-
-// A count of entries, which has four bytes.
-pub fn put_count32(out: &mut [u8], at: usize, n: usize) -> usize
-    ensures { Wrote at out.old out.new result }
-{
-    put_u32(out, at, (n % 0x1_0000_0000) as u32)
-}
-
-pub fn put_i64(out: &mut [u8], at: usize, v: i64) -> usize
-    ensures { Wrote at out.old out.new result }
-{
-    put_u64(out, at, bits_of(v))
-}
-
-fn bits32(v: i32) -> u32 {
-    (bits_of(v as i64) % 0x1_0000_0000) as u32
-}
-
-pub fn put_i32(out: &mut [u8], at: usize, v: i32) -> usize
-    ensures { Wrote at out.old out.new result }
-{
-    put_u32(out, at, bits32(v))
-}
-
-// All of some bytes, without their length.
-pub fn put_raw(out: &mut [u8], at: usize, bytes: &[u8]) -> usize
-    ensures { Wrote at out.old out.new result }
-{
-    let n = bytes.len();
-    let mut to = at;
-    let mut i: usize = 0;
-    while i < n {
-        to = put_u8(out, to, bytes[i]);
-        i += 1;
-    }
-    to
-}
-
-pub fn put_bytes(out: &mut [u8], at: usize, bytes: &[u8]) -> usize
-    ensures { Wrote at out.old out.new result }
-{
-    let to = put_u32(out, at, (bytes.len() % 0x1_0000_0000) as u32);
-    put_raw(out, to, bytes)
-}
-
-// The first `n` of some bytes, at most all of them.
-pub fn put_first(out: &mut [u8], at: usize, bytes: &[u8], n: usize) -> usize
-    ensures { Wrote at out.old out.new result }
-{
-    if n <= bytes.len() {
-        put_bytes(out, at, &bytes[0..n])
-    } else {
-        put_bytes(out, at, bytes)
+impl Put for u8 {
+    fn put(self, out: &mut Output) {
+        out.put_raw(&[self]);
     }
 }
 
-// A part of the store, as its bytes; nothing of one that lies outside.
-pub fn put_part_bytes(out: &mut [u8], at: usize, store: &[u8], p: Part) -> usize
-    ensures { Wrote at out.old out.new result }
-{
-    let start = p.start;
-    if start <= store.len() {
-        if p.len <= store.len() - start {
-            let end = start + p.len;
-            put_bytes(out, at, &store[start..end])
-        } else {
-            at
-        }
-    } else {
-        at
+impl Put for bool {
+    fn put(self, out: &mut Output) {
+        out.put(u8::from(self));
     }
 }
 
-pub fn put_maybe_part_bytes(out: &mut [u8], at: usize, store: &[u8], p: Option<Part>) -> usize
-    ensures { Wrote at out.old out.new result }
-{
-    match p {
-        None => put_u8(out, at, 0),
-        Some(q) => {
-            let to = put_u8(out, at, 1);
-            put_part_bytes(out, to, store, q)
+impl Put for u32 {
+    fn put(self, out: &mut Output) {
+        out.put_raw(&self.to_le_bytes());
+    }
+}
+
+impl Put for u64 {
+    fn put(self, out: &mut Output) {
+        out.put_raw(&self.to_le_bytes());
+    }
+}
+
+impl Put for usize {
+    fn put(self, out: &mut Output) {
+        out.put(self as u64);
+    }
+}
+
+impl Put for i32 {
+    fn put(self, out: &mut Output) {
+        out.put(self.cast_unsigned());
+    }
+}
+
+impl Put for i64 {
+    fn put(self, out: &mut Output) {
+        out.put(self.cast_unsigned());
+    }
+}
+
+impl<T: Put> Put for Option<T> {
+    fn put(self, out: &mut Output) {
+        match self {
+            None => out.put(false),
+            Some(v) => {
+                out.put(true);
+                out.put(v);
+            }
         }
     }
 }
 
-pub fn put_part(out: &mut [u8], at: usize, p: Part) -> usize
-    ensures { Wrote at out.old out.new result }
-{
-    let to = put_usize(out, at, p.start);
-    put_usize(out, to, p.len)
+impl<A: Put, B: Put> Put for (A, B) {
+    fn put(self, out: &mut Output) {
+        let (a, b) = self;
+        out.put(a);
+        out.put(b);
+    }
 }
 
-pub fn put_maybe_part(out: &mut [u8], at: usize, p: Option<Part>) -> usize
-    ensures { Wrote at out.old out.new result }
-{
-    match p {
-        None => put_u8(out, at, 0),
-        Some(q) => {
-            let to = put_u8(out, at, 1);
-            put_part(out, to, q)
+impl<A: Put, B: Put, C: Put> Put for (A, B, C) {
+    fn put(self, out: &mut Output) {
+        let (a, b, c) = self;
+        out.put(a);
+        out.put(b);
+        out.put(c);
+    }
+}
+
+impl<A: Put, B: Put, C: Put, D: Put> Put for (A, B, C, D) {
+    fn put(self, out: &mut Output) {
+        let (a, b, c, d) = self;
+        out.put(a);
+        out.put(b);
+        out.put(c);
+        out.put(d);
+    }
+}
+
+// The low half of a number: what the port keeps in 64 bits and the protocol in 32.
+pub fn low_half(n: u64) -> u32 {
+    (n % 0x1_0000_0000) as u32
+}
+
+// Bytes with their length.
+impl Put for &[u8] {
+    fn put(self, out: &mut Output) {
+        out.put(low_half(self.len() as u64));
+        out.put_raw(self);
+    }
+}
+
+// A part of the store, as its bytes.
+#[derive(Clone, Copy)]
+pub struct Stored<'a> {
+    pub store: &'a [u8],
+    pub part: Part,
+}
+
+// Nothing of one that lies outside.
+impl Put for Stored<'_> {
+    fn put(self, out: &mut Output) {
+        let Part { start, len } = self.part;
+        if let Some(bytes) = self.store.get(start..start.saturating_add(len)) {
+            out.put(bytes);
         }
     }
 }
 
-pub fn put_maybe_u64(out: &mut [u8], at: usize, v: Option<u64>) -> usize
-    ensures { Wrote at out.old out.new result }
-{
-    match v {
-        None => put_u8(out, at, 0),
-        Some(n) => {
-            let to = put_u8(out, at, 1);
-            put_u64(out, to, n)
-        }
+impl Put for Part {
+    fn put(self, out: &mut Output) {
+        out.put(self.start);
+        out.put(self.len);
     }
 }
 
-// A number that the port keeps in 64 bits and the protocol in 32.
-pub fn put_maybe_u32(out: &mut [u8], at: usize, v: Option<u64>) -> usize
-    ensures { Wrote at out.old out.new result }
-{
-    match v {
-        None => put_u8(out, at, 0),
-        Some(n) => {
-            let to = put_u8(out, at, 1);
-            put_u32(out, to, (n % 0x1_0000_0000) as u32)
-        }
+impl Put for TxnId {
+    fn put(self, out: &mut Output) {
+        out.put(self.most_sig_bits);
+        out.put(self.least_sig_bits);
     }
 }
 
-pub fn put_maybe_i64(out: &mut [u8], at: usize, v: Option<i64>) -> usize
-    ensures { Wrote at out.old out.new result }
-{
-    match v {
-        None => put_u8(out, at, 0),
-        Some(n) => {
-            let to = put_u8(out, at, 1);
-            put_i64(out, to, n)
-        }
+impl Put for MessageId {
+    fn put(self, out: &mut Output) {
+        out.put((self.ledger_id, self.entry_id));
+        out.put((self.partition, self.batch_index, self.batch_size));
     }
 }
 
-pub fn put_maybe_i32(out: &mut [u8], at: usize, v: Option<i32>) -> usize
-    ensures { Wrote at out.old out.new result }
-{
-    match v {
-        None => put_u8(out, at, 0),
-        Some(n) => {
-            let to = put_u8(out, at, 1);
-            put_i32(out, to, n)
-        }
-    }
-}
-
-pub fn put_maybe_bool(out: &mut [u8], at: usize, v: Option<bool>) -> usize
-    ensures { Wrote at out.old out.new result }
-{
-    match v {
-        None => put_u8(out, at, 0),
-        Some(b) => {
-            let to = put_u8(out, at, 1);
-            put_bool(out, to, b)
-        }
-    }
-}
-
-pub fn put_maybe_txn(out: &mut [u8], at: usize, v: Option<TxnId>) -> usize
-    ensures { Wrote at out.old out.new result }
-{
-    match v {
-        None => put_u8(out, at, 0),
-        Some(t) => {
-            let mark = put_u8(out, at, 1);
-            let most = put_u64(out, mark, t.most_sig_bits);
-            put_u64(out, most, t.least_sig_bits)
-        }
+impl Put for MessageIdData {
+    fn put(self, out: &mut Output) {
+        out.put((self.ledger_id, self.entry_id));
+        out.put((self.partition, self.batch_index, self.batch_size));
     }
 }
 
 // The two halves of a transaction as fields of their own, the lower first.
-pub fn put_txn_halves(out: &mut [u8], at: usize, v: Option<TxnId>) -> usize
-    ensures { Wrote at out.old out.new result }
+pub fn put_txn_halves(out: &mut Output, v: Option<TxnId>)
+    ensures { Writes out.old out.new }
 {
-    match v {
-        None => {
-            let to = put_u8(out, at, 0);
-            put_u8(out, to, 0)
-        }
-        Some(t) => {
-            let least = put_u8(out, at, 1);
-            let to = put_u64(out, least, t.least_sig_bits);
-            let most = put_u8(out, to, 1);
-            put_u64(out, most, t.most_sig_bits)
-        }
-    }
-}
-
-pub fn put_message_id(out: &mut [u8], at: usize, id: MessageId) -> usize
-    ensures { Wrote at out.old out.new result }
-{
-    let ledger = put_u64(out, at, id.ledger_id);
-    let entry = put_u64(out, ledger, id.entry_id);
-    let partition = put_i32(out, entry, id.partition);
-    let index = put_i32(out, partition, id.batch_index);
-    put_i32(out, index, id.batch_size)
-}
-
-pub fn put_maybe_id(out: &mut [u8], at: usize, v: Option<MessageId>) -> usize
-    ensures { Wrote at out.old out.new result }
-{
-    match v {
-        None => put_u8(out, at, 0),
-        Some(id) => {
-            let to = put_u8(out, at, 1);
-            put_message_id(out, to, id)
-        }
-    }
-}
-
-fn put_maybe_here(out: &mut [u8], at: usize, v: i32) -> usize
-    ensures { Wrote at out.old out.new result }
-{
-    let to = put_u8(out, at, 1);
-    put_i32(out, to, v)
-}
-
-// A message id as an optional id. Those that a message bears have all their numbers.
-pub fn put_maybe_id_data(out: &mut [u8], at: usize, v: Option<MessageId>) -> usize
-    ensures { Wrote at out.old out.new result }
-{
-    match v {
-        None => put_u8(out, at, 0),
-        Some(id) => {
-            let to = put_u8(out, at, 1);
-            let ledger = put_u64(out, to, id.ledger_id);
-            let entry = put_u64(out, ledger, id.entry_id);
-            let partition = put_maybe_here(out, entry, id.partition);
-            let index = put_maybe_here(out, partition, id.batch_index);
-            put_maybe_here(out, index, id.batch_size)
-        }
-    }
+    out.put(v.map(|t| t.least_sig_bits));
+    out.put(v.map(|t| t.most_sig_bits));
 }

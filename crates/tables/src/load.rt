@@ -3,10 +3,8 @@ ghost use Rattle.std.specs.Prelude.{◌≡◌, min, length, take};
 ghost use Rattle.queue.specs.Tables.{all_well_formed};
 
 use crate::entries::well_formed;
-use rules::blank::no_message;
-use types::entry::{OpSend, Publish, Replay};
-use types::frame::ProducerName;
-use types::memory_limit::MemoryReservation;
+use rules::blank::no_publish;
+use types::entry::OpSend;
 use types::types::SequenceId;
 
 // 12, of the whole table: also of the entries past those that `load` takes.
@@ -23,24 +21,11 @@ pub fn all_well_formed(table: &[OpSend]) -> bool
 
 // Places that are not loaded mean nothing.
 fn blanks() -> [OpSend; 256] {
-    let op = OpSend {
+    [OpSend {
         sequence_id: SequenceId(0),
         answerable: false,
-        publish: Publish {
-            num_messages: 0,
-            enqueued_at: 0,
-            reservation: MemoryReservation { bytes: 0 },
-            publish_time: 0,
-            producer_name: ProducerName {
-                bytes: [0; 64],
-                len: 0,
-            },
-            uuid: [0; 16],
-            message: no_message(),
-            replay: Replay::Batched,
-        },
-    };
-    [op; 256]
+        publish: no_publish(),
+    }; 256]
 }
 
 // The first 256 entries of the table: a replay of more is refused by their number.

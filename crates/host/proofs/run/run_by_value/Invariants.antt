@@ -1,10 +1,10 @@
 -- `host::run::run_by_value`: an operation in each turn; the place in the script goes up.
-use Rattle.std.proofs.Common.{◌-◌, length}
-use Rattle.script.specs.Output.{Wrote}
+use Rattle.std.proofs.Common.{◌-◌, ◌≤◌, length}
+use Rattle.script.specs.Output.{Writes}
 use Rattle.host.proofs.run.run_by_value.Given as goal
 
-abbrev pub invariant-loop-store : goal.invariant-loop-store
-invariant-loop-store l = Wrote 0 l.initial.out l.out l.to
+abbrev pub invariant-loop-op : goal.invariant-loop-op
+invariant-loop-op l = Writes l.initial.out l.out × (l.out.at ≤ length l.out.bytes.now)
 
-abbrev pub decreases-loop-store : goal.decreases-loop-store
-decreases-loop-store l = length l.script - l.at
+abbrev pub decreases-loop-op : goal.decreases-loop-op
+decreases-loop-op l = length l.place.script.now - l.place.at

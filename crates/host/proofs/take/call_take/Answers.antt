@@ -5,4 +5,9 @@ use Rattle.host.proofs.take.call_take.Goals as goal
 
 pub returns : goal.returns
 returns c =
-    took _ c.next_outbound_frame-r.result c.next_outbound_frame-r.ensures.buffer_after c.put_taken.ensures (search rules) (search rules) (search rules)
+    let r = c.next_outbound_frame-r in
+    let b = c.buffer_of-buffer.ensures in
+    record {
+      same_reference = c.put_taken.ensures.same_reference;
+      wrote = took _ r.result r.ensures.buffer_after c.put_taken.ensures.completes b.onward b.inside (search rules);
+    }

@@ -5,7 +5,12 @@ use Rattle.host.proofs.taken.take_message.Goals as goal
 
 pub returns : goal.returns
 returns c =
-    rw c.finish.ensures
-    (took c.plan_take-plan.result.answer c.plan_take-plan.result.frame.payload_len c.plan_take-plan.result.done c.up_to-end.ensures.0 c.up_to-end.ensures.1 c.lay_message.ensures
-    (λ t. (goes c.args.c c.args.front c.message_span-span.result 0 (c.up_to-end.result - c.up_to-start.result) c.plan_take-plan.result c.plan_take-plan.ensures t).written)
-    c.put_taken-behind_answer.ensures)
+    let p = c.plan_take-plan in
+    let b = c.buffer_of-buffer in
+    record {
+      same_reference = c.put_taken.ensures.same_reference;
+      wrote =
+          took p.result.answer p.result.frame.payload_len p.result.done b.ensures.onward b.ensures.inside c.lay_message.ensures
+          (λ t. (goes c.args.c c.args.front c.message_span-span.result 0 (b.result.end - b.result.start) p.result p.ensures t).written)
+          c.put_taken.ensures.completes;
+    }

@@ -1,0 +1,19 @@
+-- What a slot of the pending ring holds before its first use.
+use Rattle.std.specs.Prelude.{pos}
+use Rattle.types.specs.Empty.{empty_name}
+use Rattle.types.specs.declared.entry.Publish.{Publish}
+use Rattle.types.specs.declared.entry.Replay.TheVariants.{Batched}
+use Rattle.queue.specs.Batch.{no_message, no_uuid}
+
+abbrev pub no_publish : Publish
+no_publish =
+    record {
+      num_messages = pos 0;
+      enqueued_at = 0;
+      reservation = record { bytes = 0 };
+      publish_time = 0;
+      producer_name = empty_name;
+      uuid = no_uuid;
+      message = no_message;
+      replay = Batched;
+    }

@@ -1,6 +1,0 @@
--- `script::write::put_maybe_id`: its writes one after the other.
-use Rattle.script.proofs.Outputs.{next}
-use Rattle.script.proofs.write.put_maybe_id.Goals as goal
-
-pub returns-in-Some : goal.returns-in-Some
-returns-in-Some c = search next
