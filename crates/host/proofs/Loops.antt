@@ -1,6 +1,6 @@
 -- Runs of a script: what is written lies inside the output, the place in the script goes up, a plan's places lie in their rings, and
 -- the ids and marks of the pending entries stay as many as they are. Assumes nothing.
-use Rattle.std.proofs.Common.{◌≡◌, ℕ, ◌-◌, ◌<◌, ◌≤◌, Bool, true, false, List, length, set, sym, ◌∙◌, subst, arith, length-set}
+use Rattle.std.proofs.Common.{◌≡◌, ℕ, ◌≤◌, List, length, set, sym, ◌∙◌, subst, arith, length-set}
 use mir.Val.{Val}
 use denote.Laws.{Is}
 use denote.Struct.Declared.{row}
