@@ -20,26 +20,6 @@ pub record Gone (l : List OpSend) (ids marks₀ marks : List ℕ) (i : ℕ) : Ty
   pub low : i ≤ length l
   pub left : cleared_each (drop i l) ids marks ≡ cleared_each l ids marks₀
 
-module _ (l : List OpSend) (ids marks₀ marks : List ℕ) where
-  pub gone_start : length marks₀ ≡ 256 → Gone l ids marks₀ marks₀ 0
-  gone_start e = record { len = e; low = zero-le; left = refl }
-
-  module _ (i : ℕ) (k : Gone l ids marks₀ marks i) where
-    pub gone_step : (d : OpSend) (after : List ℕ) → length ids ≡ 256 → i < length l
-        → after ≡ cleared_all (get_or l i d).sequence_id.0 ids marks → Gone l ids marks₀ after (i + 1)
-    gone_step d after e h q =
-        record {
-          len = ap length q ∙ length_cleared (get_or l i d).sequence_id.0 256 ids marks e k.len;
-          low = omega arith;
-          left =
-              (λ j. cleared_each (drop (add-one i j) l) ids (q j))
-              ∙ ap (λ (r : List OpSend). cleared_each r ids marks) (sym (drop-cons l i d h))
-              ∙ k.left;
-        }
-
-    pub gone_end : length l ≤ i → marks ≡ cleared_each l ids marks₀
-    gone_end h = ap (λ (r : List OpSend). cleared_each r ids marks) (sym (drop_of_length-le l h)) ∙ k.left
-
 -- ── the entries of one kind are those that pass a test ──
 
 abbrev pub is_kind : Bool → OpSend → Bool
