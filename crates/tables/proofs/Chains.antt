@@ -1,5 +1,5 @@
 -- What chains of iterators and loops over entries make, as the definitions have it. Assumes nothing.
-use Rattle.std.proofs.Common.{◌≡◌, ℕ, suc, ◌+◌, ◌^◌, ◌<◌, ◌≤◌, min, Bool, true, false, ◌&&◌, List, [], ◌∷◌, ◌++◌, length, take, drop, sym, refl, ap, ◌∙◌, arith, length-take-le, take_at, cond, get_or, drop-cons, drop_of_length-le, add-one}
+use Rattle.std.proofs.Common.{◌≡◌, ℕ, suc, ◌+◌, ◌^◌, ◌<◌, ◌≤◌, min, Bool, true, false, List, [], ◌∷◌, ◌++◌, length, take, drop, sym, refl, ap, ◌∙◌, arith, length-take-le, take_at, cond}
 use Rattle.std.proofs.lemmas.List.{take_min}
 use Rattle.std.proofs.lemmas.List.Folds.{length-prefix_len}
 use Rattle.std.specs.Prelude.{Option}
@@ -8,7 +8,7 @@ use Rattle.laws.specs.Choice.{pick}
 use Rattle.laws.specs.Numbers.{add_sat}
 use Rattle.types.specs.declared.entry.OpSend.{OpSend}
 use Rattle.queue.specs.Settle.{due_count}
-use Rattle.queue.specs.Tables.{well_formed_as, all_well_formed, frames_of, frames_for}
+use Rattle.queue.specs.Tables.{all_well_formed, frames_of, frames_for}
 use Rattle.tables.specs.Drain.{is_due}
 
 -- all entries before i are well formed

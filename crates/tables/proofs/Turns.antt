@@ -1,5 +1,5 @@
 -- The loops over entries: for each an invariant, that says what is left to do, with how it begins, goes on and ends. Assumes nothing.
-use Rattle.std.proofs.Common.{◌≡◌, ℕ, ◌+◌, ◌<◌, ◌≤◌, Bool, true, false, not, List, [], ◌∷◌, length, get_or, take, drop, sym, refl, ap, ◌∙◌, zero-le, add-one, arith, drop_of_length-le, length-take-le, drop-cons}
+use Rattle.std.proofs.Common.{◌≡◌, ℕ, ◌≤◌, Bool, true, false, not, List, [], ◌∷◌, length, take, drop, sym, refl, ap, ◌∙◌, length-take-le}
 use Rattle.laws.specs.Choice.{pick}
 use Rattle.laws.specs.Lists.{keeping}
 use Rattle.types.specs.declared.entry.OpSend.{OpSend}
