@@ -44,7 +44,7 @@ pub fn same_txn(x: Option<TxnId>, y: Option<TxnId>) -> bool
     x == y
 }
 
-// What a batch keeps of a message.
+// What a batch keeps of a message. No `From`: that would have to stand in `types`, below the definition that is cited here.
 pub fn single_of(m: OutgoingMessage) -> SingleMessage
     ensures { result ≡ single_of m }
 {

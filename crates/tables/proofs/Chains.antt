@@ -1,5 +1,5 @@
 -- What chains of iterators and loops over entries make, as the definitions have it. Assumes nothing.
-use Rattle.std.proofs.Common.{◌≡◌, ℕ, suc, ◌+◌, ◌^◌, ◌<◌, ◌≤◌, min, Bool, true, false, ◌&&◌, List, [], ◌∷◌, ◌++◌, length, take, drop, sym, refl, ap, ◌∙◌, arith, length-take-le, take_at, cond, get_or, drop-cons, drop_of_length-le, add-one}
+use Rattle.std.proofs.Common.{◌≡◌, ℕ, suc, ◌+◌, ◌^◌, ◌<◌, ◌≤◌, min, Bool, true, false, List, [], ◌∷◌, ◌++◌, length, take, drop, sym, refl, ap, ◌∙◌, arith, length-take-le, take_at, cond}
 use Rattle.std.proofs.lemmas.List.{take_min}
 use Rattle.std.proofs.lemmas.List.Folds.{length-prefix_len}
 use Rattle.std.specs.Prelude.{Option}
@@ -8,31 +8,13 @@ use Rattle.laws.specs.Choice.{pick}
 use Rattle.laws.specs.Numbers.{add_sat}
 use Rattle.types.specs.declared.entry.OpSend.{OpSend}
 use Rattle.queue.specs.Settle.{due_count}
-use Rattle.queue.specs.Tables.{well_formed_as, all_well_formed, frames_of, frames_for}
+use Rattle.queue.specs.Tables.{all_well_formed, frames_of, frames_for}
 use Rattle.tables.specs.Drain.{is_due}
 
 -- all entries before i are well formed
 pub record Tested (l : List OpSend) (i : ℕ) : Type 0 where
   pub low : i ≤ length l
   pub left : all_well_formed (drop i l) ≡ all_well_formed l
-
-pub tested_start : (l : List OpSend) → Tested l 0
-tested_start l = record { low = omega arith; left = refl }
-
-module _ (l : List OpSend) (i : ℕ) (d : OpSend) (k : Tested l i) (h : i < length l) where
-  here : (b : Bool) → well_formed_as (get_or l i d) (get_or l i d).publish.replay ≡ b → (b && all_well_formed (drop (i + 1) l)) ≡ all_well_formed l
-  here b e =
-      let next : drop i l ≡ get_or l i d ∷ drop (i + 1) l = rw (add-one) (drop-cons l i d h) in
-      sym (ap all_well_formed next ∙ ap (λ (t : Bool). t && all_well_formed (drop (i + 1) l)) e) ∙ k.left
-
-  pub tested_step : well_formed_as (get_or l i d) (get_or l i d).publish.replay ≡ true → Tested l (i + 1)
-  tested_step e = record { low = omega arith; left = here true e }
-
-  pub tested_stop : well_formed_as (get_or l i d) (get_or l i d).publish.replay ≡ false → false ≡ all_well_formed l
-  tested_stop e = here false e
-
-pub tested_end : (l : List OpSend) (i : ℕ) → Tested l i → length l ≤ i → true ≡ all_well_formed l
-tested_end l i k h = sym (ap all_well_formed (drop_of_length-le l h)) ∙ k.left
 
 -- one entry's frames are added
 abbrev pub plus : ℕ → OpSend → ℕ

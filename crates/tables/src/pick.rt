@@ -12,16 +12,17 @@ pub struct Picks {
     pub len: usize,
 }
 
-// Of the first n entries the batched ones, or the others, in order.
+// Of the first n entries the batched ones, or the others, in order. The array comes by value, since there is no heap: what is
+// picked overwrites a copy of it.
 pub fn picked(entries: [OpSend; 256], n: usize, batched: bool) -> Picks
     requires { n ≤ 256 }
     ensures { PickedFrom batched (take n entries) result }
 {
     let mut out = entries;
     let mut len = 0;
-    for i in 0..n {
-        if is_batched(entries[i].publish.replay) == batched {
-            out[len] = entries[i];
+    for op in &entries[..n] {
+        if is_batched(op.publish.replay) == batched {
+            out[len] = *op;
             len += 1;
         }
     }

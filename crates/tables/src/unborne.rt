@@ -12,16 +12,16 @@ fn is_borne(ids: &[u64], id: u64) -> bool
     ids.contains(&id)
 }
 
-// Of the first n entries, in order, those whose id is none of the ids.
+// Of the first n entries, in order, those whose id is none of the ids. The array comes by value as in `picked`.
 pub fn unborne(ids: &[u64], ops: [OpSend; 256], n: usize) -> Picks
     requires { n ≤ 256 }
     ensures { (take result.len result.entries ≡ keeping (free ids.now) (take n ops)) × (result.len ≤ 256) }
 {
     let mut entries = ops;
     let mut len = 0;
-    for i in 0..n {
-        if !is_borne(ids, ops[i].sequence_id.0) {
-            entries[len] = ops[i];
+    for op in &ops[..n] {
+        if !is_borne(ids, op.sequence_id.0) {
+            entries[len] = *op;
             len += 1;
         }
     }

@@ -1,12 +1,12 @@
 -- Laws of ids zipped with marks: lengths, elements, and clearing as a change of each element. Assumes nothing.
 use mathlib.Core.Path.{◌≡◌, refl, ap, sym, ◌∙◌}
 use mathlib.Core.Bool.{Bool, true, not}
-use mathlib.Core.List.{List, [], ◌∷◌, ◌++◌, append-nil}
+use mathlib.Core.List.{List, [], ◌∷◌, ◌++◌}
 use Prim.Native.Nat.{ℕ, zero, suc, ◌+◌, ◌<◌, ◌≤◌}
 use native.Mathlib.Omega.{arith}
 use lib.Dec.{eqb}
-use lib.ListN.{length, get_or, take, drop, set, length-set, drop_of_length-le}
-use lib.Seq.{drop-cons, take_all}
+use lib.ListN.{length, get_or, take, drop, set, length-set}
+use lib.Seq.{drop-cons}
 use native.Mathlib.Numerals.{add-one}
 use Rattle.std.proofs.Common.{subst, eq-eqb, ne_eqb}
 use Rattle.laws.specs.Choice.{pick}
@@ -36,9 +36,6 @@ pub record Clearing (id : ℕ) (is ms₀ ms : List ℕ) (i : ℕ) : Type 0 where
   pub low : i ≤ 256
   pub left : take i ms ++ cleared_all id (drop i is) (drop i ms) ≡ cleared_all id is ms₀
 
-pub clear_start : (id : ℕ) (is ms : List ℕ) → length ms ≡ 256 → Clearing id is ms ms 0
-clear_start id is ms e = record { len = e; low = omega arith; left = refl }
-
 pub clear_step : (id : ℕ) (is ms₀ ms : List ℕ) (i : ℕ) → length is ≡ 256 → i < 256 → Clearing id is ms₀ ms i
     → Clearing id is ms₀ (set ms i (cleared id (get_or is i 0) (get_or ms i 0))) (i + 1)
 clear_step id is ms₀ ms i e b s =
@@ -54,16 +51,6 @@ clear_step id is ms₀ ms i e b s =
           ∙ sym (λ j. take i ms ++ cleared_all id (drop-cons is i 0 hi j) (drop-cons ms i 0 hm j))
           ∙ s.left;
     }
-
-pub clear_end : (id : ℕ) (is ms₀ ms : List ℕ) (i : ℕ) → length is ≡ 256 → 256 ≤ i → Clearing id is ms₀ ms i → ms ≡ cleared_all id is ms₀
-clear_end id is ms₀ ms i e b s =
-    let l : length ms ≤ i = omega (arith, s.len) in
-    let k : length is ≤ i = omega arith in
-    sym
-    (ap (λ (r : List ℕ). take i ms ++ cleared_all id r (drop i ms)) (drop_of_length-le is k)
-    ∙ append-nil (take i ms)
-    ∙ take_all i ms l)
-    ∙ s.left
 
 -- a mark that is cleared, and one that stays
 pub clear_hit : (id : ℕ) (is ms₀ ms : List ℕ) (i : ℕ) → length is ≡ 256 → i < 256 → get_or is i 0 ≡ id → Clearing id is ms₀ ms i

@@ -1,7 +1,7 @@
--- `pick::picked`: the entries before the one at hand are picked.
-use Rattle.std.proofs.Common.{take}
-use Rattle.tables.proofs.Turns.{Picking}
+-- `pick::picked`: those gathered and what the rest has to give are those of all entries.
+use Rattle.laws.proofs.Gathers.{Keeping}
+use Rattle.tables.proofs.Turns.{is_kind}
 use Rattle.tables.proofs.pick.picked.Given as goal
 
-abbrev pub invariant-loop-i : goal.invariant-loop-i
-invariant-loop-i l = Picking l.batched (take l.n l.entries) l.out l.len l.i
+abbrev pub invariant-loop-op : goal.invariant-loop-op
+invariant-loop-op l = Keeping 256 (is_kind l.batched) l.fn.entries l.n l.out l.len l.op-index

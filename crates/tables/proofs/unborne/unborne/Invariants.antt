@@ -3,5 +3,5 @@ use Rattle.laws.proofs.Gathers.{Keeping}
 use Rattle.tables.specs.Unborne.{free}
 use Rattle.tables.proofs.unborne.unborne.Given as goal
 
-abbrev pub invariant-loop-i : goal.invariant-loop-i
-invariant-loop-i l = Keeping 256 (free l.ids) l.ops l.n l.entries l.len l.i
+abbrev pub invariant-loop-op : goal.invariant-loop-op
+invariant-loop-op l = Keeping 256 (free l.ids) l.fn.ops l.n l.entries l.len l.op-index
