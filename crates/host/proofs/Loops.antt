@@ -1,16 +1,15 @@
--- Runs of a script: what is written lies inside the output, the place in the script goes up, a plan's places lie in their rings, and
+-- Runs of a script: what is written lies inside the output, the place in the script goes up, and
 -- the ids and marks of the pending entries stay as many as they are. Assumes nothing.
 use Rattle.std.proofs.Common.{◌≡◌, ℕ, ◌≤◌, List, length, set, sym, ◌∙◌, subst, arith, length-set}
 use mir.Val.{Val}
 use denote.Laws.{Is}
 use denote.Struct.Declared.{row}
-use Rattle.plans.specs.declared.state.Core.{Core}
-use Rattle.plans.specs.declared.delta.SendDelta.{SendDelta}
-use Rattle.plans.specs.declared.send.Sending.{Sending}
-use Rattle.plans.specs.Send.{planned}
-use Rattle.producer.specs.Apply.{InRange}
+use Rattle.std.specs.Prelude.{Option}
+use Rattle.types.specs.declared.entry.OpSend.{OpSend}
+use Rattle.plans.specs.declared.delta.Put.{Put}
+use Rattle.producer.specs.Apply.{store_entry}
 use Rattle.producer.specs.declared.state.ProducerState.{ProducerState}
-use Rattle.producer.proofs.Sends.{in_range}
+use Rattle.producer.proofs.Stores.{length_stored}
 use Rattle.producer.specs.contracts.state.ProducerState.{the_type}
 use Rattle.script.specs.Output.{Writes}
 use Rattle.script.specs.declared.write.Output.{Output}
@@ -19,10 +18,6 @@ use Rattle.script.proofs.Writings.{both}
 -- what is written of an output lies inside it
 pub inside : {a b : Output} → Writes a b → a.at ≤ length a.bytes.now → b.at ≤ length b.bytes.now
 inside w h = let v = w.wrote in let e = v.same in let k = v.within in omega arith
-
--- the places of a planned send lie in their rings
-pub there : (n : ℕ) (a : Sending) (k : Core) {d : SendDelta} → d ≡ planned n a k → InRange d
-there n a k e = subst InRange (sym e) (in_range n a k)
 
 -- the ids and marks of the pending entries: as many as their types say
 pub record Keyed (is ms : List ℕ) : Type 0 where
@@ -42,6 +37,10 @@ keyed s vs g =
 
 pub alike : {s t : ProducerState} → s ≡ t → Keys t → Keys s
 alike e k = subst Keys (sym e) k
+
+-- an entry is stored
+pub entered : (p : Option (Put OpSend)) (s : ProducerState) → Keys s → Keys (store_entry p s)
+entered p s k = record { ids = length_stored _ p s.pending_ids ∙ k.ids; marks = length_stored _ p s.pending_marks ∙ k.marks }
 
 -- an id and a mark are stored
 pub kept : {is ms : List ℕ} (i v w : ℕ) → Keyed is ms → Keyed (set is i v) (set ms i w)

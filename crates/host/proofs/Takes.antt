@@ -3,19 +3,16 @@ use Rattle.std.specs.Prelude.{Err, Ok, Result}
 use Rattle.std.proofs.Common.{◌≡◌, ℕ, ◌-◌, ◌≤◌, min, List, ◌++◌, length, take, drop, refl, ap, ◌∙◌, arith, length-drop, length-take, length-take-le, drop_at}
 use Rattle.types.specs.declared.outbound.OutboundFrame.{OutboundFrame}
 use Rattle.queue.specs.Take.{written}
-use Rattle.queue.specs.Told.{told_giving}
-use Rattle.producer.specs.Take.{frame_told, told_frame}
-use Rattle.producer.specs.declared.take.OutboundAnswer.{OutboundAnswer}
+use Rattle.producer.specs.Take.{told_frame}
 use Rattle.script.specs.Output.{Wrote}
 use Rattle.host.specs.Framing.{Completes, taken}
 use Rattle.script.proofs.Outputs.{nothing}
 use Rattle.host.proofs.Framing.{lent}
 use Rattle.types.specs.declared.error.ProducerError.{ProducerError}
 
-module _ (store before after : List ℕ) (f : OutboundFrame) (l : length after ≡ length before) where
-  wrote : (o : Result (Unit {0}) ProducerError) → after ≡ written (told_giving o (frame_told store after f)) before
-      → Wrote 0 before after (taken o f.payload_len (length before))
-  wrote (Ok tt) e =
+module _ (store before after : List ℕ) (l : length after ≡ length before) where
+  wrote : (a : Result OutboundFrame ProducerError) → after ≡ written (told_frame store after a) before → Wrote 0 before after (taken a (length before))
+  wrote (Ok f) e =
       let n = f.payload_len in
       let k : length (take n after) ≡ min n (length before) = length-take n after ∙ omega arith in
       record {
@@ -30,11 +27,11 @@ module _ (store before after : List ℕ) (f : OutboundFrame) (l : length after �
       }
   wrote (Err r) e = rw e nothing
 
-pub took : {d ys e : List ℕ} {to start end r : ℕ} (store : List ℕ) (q : OutboundAnswer)
-    → ys ≡ written (told_frame store ys q) (take (end - start) (drop start d))
-    → Completes to start (taken q.answer q.frame.payload_len (end - start)) (take start d ++ (ys ++ drop (end - start) (drop start d))) e r
+pub took : {d ys e : List ℕ} {to start end r : ℕ} (store : List ℕ) (a : Result OutboundFrame ProducerError)
+    → ys ≡ written (told_frame store ys a) (take (end - start) (drop start d))
+    → Completes to start (taken a (end - start)) (take start d ++ (ys ++ drop (end - start) (drop start d))) e r
     → start ≤ end → end ≤ length d → length ys ≡ length (take (end - start) (drop start d)) → Wrote to d e r
-took {d} {ys} {e} {to} {start} {end} store q w c h k l =
+took {d} {ys} {e} {to} {start} {end} store a w c h k l =
     let m : length (take (end - start) (drop start d)) ≡ end - start =
     length-take-le (end - start) (drop start d) (rw length-drop (omega arith)) in
-    c d (lent d ys start end h k (rw m at (wrote store (take (end - start) (drop start d)) ys q.frame l q.answer w)))
+    c d (lent d ys start end h k (rw m at (wrote store (take (end - start) (drop start d)) ys l a w)))

@@ -20,18 +20,16 @@ use Rattle.wire.proofs.Lengths.{item_length_lem}
 use Rattle.wire.proofs.Writes.{same}
 use Rattle.queue.specs.Frame.{single_in}
 use Rattle.frames.specs.Span.{name_in, skip_of, piece_len, span_at, message_span}
-use Rattle.frames.specs.Answer.{answer_of, is_done}
-use Rattle.frames.specs.Outbound.{frame_out}
 use Rattle.frames.specs.declared.span.Span.{Span}
 use Rattle.frames.proofs.Batches.{single_in_lem}
-use Rattle.plans.specs.Take.{take_planned}
+use Rattle.plans.specs.Take.{plan_with, take_planned}
 use Rattle.plans.specs.declared.state.Core.{Core}
 use Rattle.plans.specs.declared.take.TakePlan.{TakePlan}
 use Rattle.script.specs.Output.{Wrote}
-use Rattle.host.specs.Framing.{Completes, taken}
+use Rattle.host.specs.Framing.{Completes}
 use Rattle.script.proofs.Outputs.{further}
 use Rattle.host.proofs.Framing.{lent}
-use Rattle.host.specs.Lays.{Lays, Message}
+use Rattle.host.specs.Lays.{Message}
 use Rattle.types.specs.declared.error.ProducerError.{ProducerError}
 
 -- ── what a frame that goes out has passed ──
@@ -41,41 +39,21 @@ record Passed (empty inside short : Bool) : Type 0 where
   within : inside ≡ true
   long : short ≡ false
 
-passes : (z i t : Bool) → is_done (pick z (Err NoFrame) (pick i (pick t (Err TooShort) (Ok tt)) (Err PartOutside))) ≡ true → Passed z i t
-passes true i t e = differ (cc)
-passes false true true e = differ (cc)
-passes false true false e = record { some = refl; within = refl; long = refl }
-passes false false t e = differ (cc)
+passes : (z i t : Bool) (m p : TakePlan)
+    → plan_with (pick z (Err NoFrame) (pick i (pick t (Err TooShort) (Ok tt)) (Err PartOutside))) m ≡ Ok p → Passed z i t
+passes true i t m p e = differ (cc)
+passes false true true m p e = differ (cc)
+passes false true false m p e = record { some = refl; within = refl; long = refl }
+passes false false t m p e = differ (cc)
 
-done_is : (o : Result (Unit {0}) ProducerError) → is_done o ≡ true → o ≡ (Ok tt)
-done_is (Ok tt) e = refl
-done_is (Err r) e = differ (cc)
-
-size_is : (h : ProducerHandle) (r : FrameRecord) (k : FrameKind) (n : ℕ) → (frame_out h r k n).payload_len ≡ n
-size_is h r Single n = refl
-size_is h r (Batch b) n = refl
-size_is h r (Chunked c) n = refl
-
-pub record Goes (s : Span) (room : ℕ) (p : TakePlan) : Type 0 where
+pub record Goes (s : Span) (room : ℕ) : Type 0 where
   pub inside : s.inside ≡ true
   pub fits : s.len ≤ room
-  pub written : s.len ≤ taken p.answer p.frame.payload_len room
 
-pub goes : (c : Core) (r : FrameRecord) (s : Span) (count room : ℕ) (p : TakePlan) → p ≡ take_planned c r s count room → p.done ≡ true → Goes s room p
-goes c r s count room p e d = subst (λ (q : TakePlan). q.done ≡ true → Goes s room q) (sym e) planned d
-  where
-    planned : (take_planned c r s count room).done ≡ true → Goes s room (take_planned c r s count room)
-    planned t =
-        let o = answer_of c.rings.outbound.len s room in
-        let h = passes (eqb c.rings.outbound.len 0) s.inside (ltb room s.len) t in
-        let f : s.len ≤ room = ltb-false room s.len h.long in
-        record {
-          inside = h.within;
-          fits = f;
-          written =
-              subst (λ (a : Result (Unit {0}) ProducerError). s.len ≤ taken a (frame_out c.handle r r.kind s.len).payload_len room) (sym (done_is o t))
-              (subst (λ (n : ℕ). s.len ≤ min n room) (sym (size_is c.handle r r.kind s.len)) (omega arith));
-        }
+pub goes : (c : Core) (r : FrameRecord) (s : Span) (count room : ℕ) (p : TakePlan) → Ok p ≡ take_planned c r s count room → Goes s room
+goes c r s count room p e =
+    let h = passes (eqb c.rings.outbound.len 0) s.inside (ltb room s.len) _ p (sym e) in
+    record { inside = h.within; fits = ltb-false room s.len h.long }
 
 -- ── where a message's payload lies ──
 
@@ -112,11 +90,6 @@ laid {bytes} {before} {after} {at} {r} p =
       rest = ap (drop r) p.left ∙ drop_at (take at before ++ bytes) z r k ∙ ap (λ (j : ℕ). drop j before) (sym n);
     }
 
-pub lays : {bytes before after : List ℕ} {r n : ℕ} (d : Bool) → d ≡ true → length bytes ≡ n → Puts bytes 0 before after r → Lays d n before after r
-lays {bytes} {before} {after} {r} {n} d e k p =
-    let x : 0 + length bytes ≡ n = omega arith in
-    record { wrote = laid p; size = p.next ∙ x ∙ sym (ap (λ (b : Bool). pick b n 0) e) }
-
 -- ── what can be laid out ──
 
 pub held_room : (store out : List ℕ) (m : SingleMessage) (at : ℕ) → single_in (length store) m ≡ true
@@ -135,31 +108,20 @@ pub part_room : {store before : List ℕ} {s : Span} → Message store s before 
 part_room {store} {before} {s} m = let l = part_length store s m.inside in let h = m.room in record { fits = omega arith }
 
 module _ (store d : List ℕ) (start end : ℕ) (h : start ≤ end) (k : end ≤ length d) (c : Core) (r : FrameRecord) (s : Span) (count : ℕ) (p : TakePlan)
-    (planned : p ≡ take_planned c r s count (end - start)) (t : p.done ≡ true) where
+    (planned : Ok p ≡ take_planned c r s count (end - start)) where
   buffer_length : length (take (end - start) (drop start d)) ≡ end - start
   buffer_length = length-take-le (end - start) (drop start d) (rw length-drop (omega arith))
 
   pub message : s ≡ message_span (length store) r → length store < 2 ^ 64 → Message store s (take (end - start) (drop start d))
   message e small =
-      let g = goes c r s count (end - start) p planned t in
+      let g = goes c r s count (end - start) p planned in
       let f = g.fits in
       let l = buffer_length in
       record { inside = part_end (length store) r s e small g.inside; room = omega arith }
 
--- no more is laid out than the answer says
-laid_small : (d : Bool) (len n : ℕ) → (d ≡ true → len ≤ n) → pick d len 0 ≤ n
-laid_small true len n h = h refl
-laid_small false len n h = omega arith
-
-taken_small : (o : Result (Unit {0}) ProducerError) (n room : ℕ) → taken o n room ≤ room
-taken_small (Ok tt) n room = omega arith
-taken_small (Err e) n room = omega arith
-
-pub took : {d ys e : List ℕ} {to start end r m len : ℕ} (o : Result (Unit {0}) ProducerError) (n : ℕ) (done : Bool) → start ≤ end → end ≤ length d
-    → Lays done len (take (end - start) (drop start d)) ys m → (done ≡ true → len ≤ taken o n (end - start))
-    → Completes to start (taken o n (end - start)) (take start d ++ (ys ++ drop (end - start) (drop start d))) e r → Wrote to d e r
-took {d} {ys} {e} {to} {start} {end} {r} {m} {len} o n done h k lays small c =
+-- what was laid out stands in the output, and the answer is put around it
+pub took : {d ys e : List ℕ} {to start end r m n : ℕ} → start ≤ end → end ≤ length d → Wrote 0 (take (end - start) (drop start d)) ys m → m ≡ n
+    → n ≤ end - start → Completes to start n (take start d ++ (ys ++ drop (end - start) (drop start d))) e r → Wrote to d e r
+took {d} {ys} {e} {to} {start} {end} {r} {m} {n} h k w size fits c =
     let room : length (take (end - start) (drop start d)) ≡ end - start = length-take-le (end - start) (drop start d) (rw length-drop (omega arith)) in
-    let a : m ≤ taken o n (end - start) = rw lays.size (laid_small done len (taken o n (end - start)) small) in
-    let b = taken_small o n (end - start) in
-    c d (lent d ys start end h k (further lays.wrote a (omega arith)))
+    c d (lent d ys start end h k (further w (omega (arith, size)) (omega arith)))

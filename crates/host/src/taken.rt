@@ -1,38 +1,30 @@
 // The take by its plan: of a frame with a message or a chunk as a whole, of a batch frame its messages one by one. The output
 // itself is the buffer, as in `take`.
-ghost use Rattle.std.specs.Prelude.{◌≡◌, ◌≤◌, true, length, is_ok};
-ghost use Rattle.script.specs.Output.{Writes};
-ghost use Rattle.host.specs.Lays.{Message, Lays};
+ghost use Rattle.std.specs.Prelude.{◌≡◌, ◌≤◌, length};
+ghost use Rattle.script.specs.Output.{Wrote, Writes};
+ghost use Rattle.host.specs.Lays.{Message};
 
-use crate::take::{buffer_of, put_taken};
+use crate::take::{buffer_of, put_frame};
 use crate::task::Task;
 use frames::inside::single_inside;
 use frames::span::{Span, message_span};
 use plans::state::Core;
 use plans::take::TakePlan;
 use rules::bounds::part_in;
+use script::operation::Call;
 use script::write::Output;
-use types::error::ProducerError;
 use types::frame::FrameRecord;
 use types::message::{Part, SingleMessage};
 use wire::batch::{item_len, put_item};
 use wire::copy::copy;
 
 // The payload of a frame that goes out.
-fn lay_message(
-    buffer: &mut [u8],
-    store: &[u8],
-    span: Span,
-    plan: Result<TakePlan, ProducerError>,
-) -> usize
-    requires { is_ok plan ≡ true → Message store.now span buffer.old }
-    ensures { Lays (is_ok plan) span.len buffer.old buffer.new result }
+fn lay_message(buffer: &mut [u8], store: &[u8], span: Span) -> usize
+    requires { Message store.now span buffer.old }
+    ensures wrote { Wrote 0 buffer.old buffer.new result }
+    ensures size { result ≡ span.len }
 {
-    if plan.is_ok() {
-        copy(buffer, &store[span.start..span.start + span.len])
-    } else {
-        0
-    }
+    copy(buffer, &store[span.start..span.start + span.len])
 }
 
 // What then stands in the front record's slot, and the scalars; nothing where the take is refused.
@@ -48,10 +40,17 @@ pub(crate) fn take_message(
     let lent = task.lent_to_take();
     let buffer = buffer_of(task, out);
     let span = message_span(front, lent.len());
-    let plan = c.plan_take(front, span, 0, buffer.end - buffer.start);
-    lay_message(&mut out.bytes[buffer.start..buffer.end], lent, span, plan);
-    put_taken(out, buffer, lent, plan.map(|p| p.frame));
-    plan.ok()
+    match c.plan_take(front, span, 0, buffer.end - buffer.start) {
+        Ok(plan) => {
+            lay_message(&mut out.bytes[buffer.start..buffer.end], lent, span);
+            put_frame(out, buffer.start, span.len, lent, plan.frame);
+            Some(plan)
+        }
+        Err(e) => {
+            out.put((Call::NextOutboundFrame, e));
+            None
+        }
+    }
 }
 
 // One message of a batch, as the writers of `script` do it: where it has no room, or not all of it lies in the store, nothing is

@@ -9,5 +9,5 @@ returns c =
     let b = c.buffer_of-buffer.ensures in
     record {
       same_reference = c.put_taken.ensures.same_reference;
-      wrote = took _ r.result r.ensures.buffer_after c.put_taken.ensures.completes b.onward b.inside (search rules);
+      wrote = took _ r.result.answer r.ensures.buffer_after c.put_taken.ensures.completes b.onward b.inside (search rules);
     }
