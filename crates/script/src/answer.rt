@@ -151,7 +151,8 @@ impl Put for Publish {
             self.replay,
         ));
         if self.replay != Replay::Batched {
-            out.put((self.message, self.publish_time, self.producer_name));
+            out.put(self.message);
+            out.put((self.publish_time, self.producer_name));
             out.put_raw(&self.uuid);
         }
     }
@@ -159,7 +160,8 @@ impl Put for Publish {
 
 impl Put for OpSend {
     fn put(self, out: &mut Output) {
-        out.put((self.sequence_id, self.publish));
+        out.put(self.sequence_id);
+        out.put(self.publish);
     }
 }
 
