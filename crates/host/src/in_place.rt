@@ -137,7 +137,8 @@ pub(crate) fn run_in_place(head: Head, out: &mut Output)
                 match index.locate(id) {
                     Some(i) => {
                         put_settled(task, out);
-                        out.put((id, s.pending[slot(256, head, i)]));
+                        out.put(id);
+                        out.put(s.pending[slot(256, head, i)]);
                         let n = len.min(256);
                         let left = n.saturating_sub(1);
                         if repeated {

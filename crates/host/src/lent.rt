@@ -25,7 +25,7 @@ fn first(table: &[OpSend], n: usize) -> &[OpSend] {
     table.get(..n).unwrap_or(table)
 }
 
-// A table, and how many of its entries count.
+// A table, and how many of its entries count. There is no heap, so it has the places of the longest.
 #[derive(Clone, Copy)]
 pub(crate) struct Entries {
     table: [OpSend; 257],

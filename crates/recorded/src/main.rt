@@ -17,6 +17,7 @@ fn read_full(input: &mut impl Read, buffer: &mut [u8]) -> usize
     ensures { result ≤ length buffer.new }
 {
     let mut done = 0;
+    // No `for`: how far a read comes is known only behind it.
     while done < buffer.len() {
         let n = input.read(&mut buffer[done..]).unwrap_or(0);
         if n == 0 {

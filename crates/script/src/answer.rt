@@ -11,8 +11,7 @@ use types::batch::BatchContainer;
 use types::entry::{OpSend, Publish, Replay};
 use types::error::ProducerError;
 use types::frame::ProducerName;
-use types::memory_limit::MemoryReservation;
-use types::message::{OutgoingMessage, Part};
+use types::message::OutgoingMessage;
 use types::outbound::{CommandSend, FrameName, MessageMetadata};
 use types::settings::{Delays, Limits, ProducerSettings};
 use types::stats::{Counters, ProducerStats, SequenceIds};
@@ -152,7 +151,8 @@ impl Put for Publish {
             self.replay,
         ));
         if self.replay != Replay::Batched {
-            out.put((self.message, self.publish_time, self.producer_name));
+            out.put(self.message);
+            out.put((self.publish_time, self.producer_name));
             out.put_raw(&self.uuid);
         }
     }
@@ -160,7 +160,8 @@ impl Put for Publish {
 
 impl Put for OpSend {
     fn put(self, out: &mut Output) {
-        out.put((self.sequence_id, self.publish));
+        out.put(self.sequence_id);
+        out.put(self.publish);
     }
 }
 

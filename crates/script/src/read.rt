@@ -1,5 +1,5 @@
 // The bytes of a script (docs/SCRIPT.md, 'Numbers and values'). What does not lie within the script reads as zero.
-ghost use Rattle.std.specs.Prelude.{◌≡◌, ◌+◌};
+ghost use Rattle.std.specs.Prelude.{◌≡◌};
 ghost use Rattle.laws.specs.Numbers.{add_sat};
 
 use types::message::Part;
