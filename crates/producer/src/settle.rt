@@ -16,7 +16,7 @@ use types::command::{CommandSendError, CommandSendReceipt};
 use types::entry::{OpSend, Publish};
 use types::error::ProducerError;
 use types::types::{MessageId, SequenceId};
-use upkeep::pending::{locate, unmark};
+use upkeep::pending::{Index, unmark};
 
 pub(crate) fn op_of(id: u64, mark: u8, publish: Publish) -> OpSend
     ensures { result ≡ entry_of id mark publish }
@@ -61,14 +61,12 @@ impl ProducerState {
     fn place_of(&self, id: u64) -> Option<usize>
         ensures { result ≡ located id (ring 256 (keys self.now.pending_ids self.now.pending_marks) self.now.core.rings.pending.head self.now.core.rings.pending.len) }
     {
-        let pending = self.core.rings.pending;
-        locate(
-            &self.pending_ids,
-            &self.pending_marks,
-            pending.head,
-            pending.len,
-            id,
-        )
+        let index = Index {
+            ids: &self.pending_ids,
+            marks: &self.pending_marks,
+            ring: self.core.rings.pending,
+        };
+        index.locate(id)
     }
 
     pub(crate) fn op_at(&self, place: usize) -> OpSend

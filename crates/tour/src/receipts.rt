@@ -38,7 +38,7 @@ impl<P: Print> Tour<'_, P> {
     fn apply(&mut self, id: u64, entry_id: u64) -> io::Result<()> {
         let r = self.state.apply_receipt(receipt(id, entry_id));
         self.state = r.state;
-        let answer = Answered(r.answer.map(|_| Settled(r.message_id)));
+        let answer = Answered(r.answer.map(|(_, id)| Settled(id)));
         let published = self.state.core.ids.last_sequence_id_published;
         println!(self.out;
             "receipt for id {id}: {answer}; published number {published}, {} pending",

@@ -72,15 +72,14 @@ impl<P: Print> Tour<'_, P> {
             .next_outbound_frame(self.store, self.taken.room());
         self.state = r.state;
         match r.answer {
-            Ok(()) => {
-                let f = &r.frame;
+            Ok(f) => {
                 let payload = Part {
                     start: self.taken.payloads,
                     len: f.payload_len,
                 };
-                self.taken.keep(self.store, f);
+                self.taken.keep(self.store, &f);
                 let place = self.taken.frames.len();
-                show::frame(self.out, place, f, bytes_at(&self.taken.bytes, payload))
+                show::frame(self.out, place, &f, bytes_at(&self.taken.bytes, payload))
             }
             Err(e) => println!(self.out; "one more take: {}", Refused(e)),
         }

@@ -44,25 +44,6 @@ impl<'a> Index<'a> {
     }
 }
 
-// The place of the first entry that bears the id, if the id is answerable.
-pub fn locate<'a>(
-    ids: &'a [u64; 256],
-    marks: &'a [u8; 256],
-    head: usize,
-    len: usize,
-    id: u64,
-) -> Option<usize>
-    requires { (length ids.now ≡ 256) × (length marks.now ≡ 256) }
-    ensures { result ≡ located id (ring 256 (keys ids.now marks.now) head len) }
-{
-    let index = Index {
-        ids,
-        marks,
-        ring: Ring { head, len },
-    };
-    index.locate(id)
-}
-
 // The id leaves the index: no entry keeps it.
 pub fn unmark(marks: &mut [u8; 256], ids: [u64; 256], id: u64)
     requires { length marks.old ≡ 256 }

@@ -49,80 +49,28 @@ pub fn allows(s: Setting) -> bool
     }
 }
 
-pub fn with_setting(t: ProducerSettings, s: Setting) -> ProducerSettings
+pub fn with_setting(mut t: ProducerSettings, s: Setting) -> ProducerSettings
     ensures { result ≡ changed s t }
 {
     match s {
-        Setting::MaxMessageSize(n) => ProducerSettings {
-            limits: Limits {
-                max_message_size: n,
-                ..t.limits
-            },
-            ..t
-        },
-        Setting::MaxBatchSizeBytes(n) => ProducerSettings {
-            limits: Limits {
-                max_batch_size_bytes: n,
-                ..t.limits
-            },
-            ..t
-        },
-        Setting::MaxMessagesInBatch(n) => ProducerSettings {
-            limits: Limits {
-                max_messages_in_batch: n,
-                ..t.limits
-            },
-            ..t
-        },
-        Setting::BatchingEnabled(b) => ProducerSettings {
-            switches: Switches {
-                batching_enabled: b,
-                ..t.switches
-            },
-            ..t
-        },
-        Setting::ChunkingEnabled(b) => ProducerSettings {
-            switches: Switches {
-                chunking_enabled: b,
-                ..t.switches
-            },
-            ..t
-        },
-        Setting::SendTimeout(d) => ProducerSettings {
-            delays: Delays {
-                send_timeout: d,
-                ..t.delays
-            },
-            ..t
-        },
-        Setting::BatchingMaxPublishDelay(d) => ProducerSettings {
-            delays: Delays {
-                batching_max_publish_delay: d,
-                ..t.delays
-            },
-            ..t
-        },
-        Setting::BrokerReady(b) => ProducerSettings {
-            switches: Switches {
-                broker_ready: b,
-                ..t.switches
-            },
-            ..t
-        },
+        Setting::MaxMessageSize(n) => t.limits.max_message_size = n,
+        Setting::MaxBatchSizeBytes(n) => t.limits.max_batch_size_bytes = n,
+        Setting::MaxMessagesInBatch(n) => t.limits.max_messages_in_batch = n,
+        Setting::BatchingEnabled(b) => t.switches.batching_enabled = b,
+        Setting::ChunkingEnabled(b) => t.switches.chunking_enabled = b,
+        Setting::SendTimeout(d) => t.delays.send_timeout = d,
+        Setting::BatchingMaxPublishDelay(d) => t.delays.batching_max_publish_delay = d,
+        Setting::BrokerReady(b) => t.switches.broker_ready = b,
     }
+    t
 }
 
 // For good.
-pub fn closed_settings(t: ProducerSettings) -> ProducerSettings
+pub fn closed_settings(mut t: ProducerSettings) -> ProducerSettings
     ensures { result ≡ closed t }
 {
-    ProducerSettings {
-        switches: Switches {
-            closed: true,
-            ..t.switches
-        },
-        ..t
-    }
+    t.switches.closed = true;
+    t
 }
 
 // 8: a name has at most 64 bytes.
