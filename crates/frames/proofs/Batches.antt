@@ -22,6 +22,7 @@ use Rattle.queue.specs.Frame.{single_in, all_in}
 use Rattle.laws.proofs.Choice.{and_left, and_right}
 use Rattle.frames.specs.Span.{empty_span, with_item, batch_span}
 use Rattle.frames.specs.declared.span.Span.{Span}
+use Rattle.frames.proofs.Pieces.{some_picked, none_picked}
 
 sat_two : (a b c : ℕ) → add_sat (add_sat a (stopped b)) (stopped c) ≡ add_sat a (stopped (b + c))
 sat_two a b c = omega arith
@@ -59,22 +60,17 @@ module _ (n : ℕ) (ms : List SingleMessage) (s : Span) (i : ℕ) (d : SingleMes
 
   pub spans_step : (t : Span) → with_item n s (get_or ms i d) ≡ Some t → Spans n ms t (i + 1)
   unfolding grown
-  spans_step t e = go (single_in n (get_or ms i d)) refl e
-    where
-      go : (b : Bool) → single_in n (get_or ms i d) ≡ b → pick b (Some grown) None ≡ Some t → Spans n ms t (i + 1)
-      go true q r = let same : grown ≡ t = cc in subst (λ (x : Span). Spans n ms x (i + 1)) same (step q)
-      go false q r = absurd (cc)
+  spans_step t e =
+      let h = some_picked (single_in n (get_or ms i d)) grown t e in
+      subst (λ (x : Span). Spans n ms x (i + 1)) h.1 (step h.0)
 
   pub spans_stop : with_item n s (get_or ms i d) ≡ None → None ≡ batch_span n ms
   unfolding grown
-  spans_stop e = go (single_in n (get_or ms i d)) refl e
-    where
-      go : (b : Bool) → single_in n (get_or ms i d) ≡ b → pick b (Some grown) None ≡ None → None ≡ batch_span n ms
-      go true q r = absurd (cc)
-      go false q r =
-          let out : false ≡ all_in n ms =
-          sym (ap (λ (x : Bool). x && all_in n (drop (i + 1) ms)) q) ∙ subst (λ (l : List SingleMessage). all_in n l ≡ all_in n ms) next h.all in
-          ap (λ (x : Bool). pick x (Some (record { start = 0; len = stopped (batch_length ms) })) None) out
+  spans_stop e =
+      let q = none_picked (single_in n (get_or ms i d)) grown e in
+      let out : false ≡ all_in n ms =
+      sym (ap (λ (x : Bool). x && all_in n (drop (i + 1) ms)) q) ∙ subst (λ (l : List SingleMessage). all_in n l ≡ all_in n ms) next h.all in
+      ap (λ (x : Bool). pick x (Some (record { start = 0; len = stopped (batch_length ms) })) None) out
 
 pub spans_all : (n : ℕ) (ms : List SingleMessage) (s : Span) (i : ℕ) → length ms ≤ i → Spans n ms s i → Some s ≡ batch_span n ms
 unfolding batch_length

@@ -16,6 +16,10 @@ pub some_picked : (b : Bool) (s t : Span) → pick b (Some s) None ≡ Some t �
 some_picked true s t e = (refl, cc)
 some_picked false s t e = absurd (cc)
 
+pub none_picked : (b : Bool) (s : Span) → ◌≡◌ {A = Option Span} (pick b (Some s) None) None → b ≡ false
+none_picked true s e = absurd (cc)
+none_picked false s e = refl
+
 -- whether there is one
 abbrev pub is_there : Option Span → Bool
 is_there (Some s) = true
