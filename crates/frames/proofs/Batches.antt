@@ -8,6 +8,8 @@ use native.Mathlib.Numerals.{add-one}
 use lib.Dec.{lit<}
 use lib.ListN.{length, drop, get_or, drop_of_length-le}
 use lib.Seq.{drop-cons}
+use Rattle.std.specs.Prelude.{Some, None}
+use Rattle.laws.specs.Choice.{pick}
 use Rattle.laws.specs.Numbers.{add_sat}
 use Rattle.laws.specs.Ring.{ring, slot}
 use Rattle.laws.proofs.Rings.{length_ring, ring_at}
@@ -20,55 +22,66 @@ use Rattle.queue.specs.Frame.{single_in, all_in}
 use Rattle.laws.proofs.Choice.{and_left, and_right}
 use Rattle.frames.specs.Span.{empty_span, with_item, batch_span}
 use Rattle.frames.specs.declared.span.Span.{Span}
-
-and_assoc : (a b c : Bool) → (a && b && c) ≡ (a && (b && c))
-and_assoc true b c = refl
-and_assoc false b c = refl
-
-and_true : (a : Bool) → (a && true) ≡ a
-and_true true = refl
-and_true false = refl
+use Rattle.frames.proofs.Pieces.{some_picked, none_picked}
 
 sat_two : (a b c : ℕ) → add_sat (add_sat a (stopped b)) (stopped c) ≡ add_sat a (stopped (b + c))
 sat_two a b c = omega arith
 
--- the span of the messages up to i
+-- the span of the messages up to i, all of which lie in the store
 pub record Spans (n : ℕ) (ms : List SingleMessage) (s : Span) (i : ℕ) : Type 0 where
   pub origin : s.start ≡ 0
   pub small : s.len < 2 ^ 64
-  pub all : (s.inside && all_in n (drop i ms)) ≡ all_in n ms
+  pub all : all_in n (drop i ms) ≡ all_in n ms
   pub sum : add_sat s.len (stopped (batch_length (drop i ms))) ≡ stopped (batch_length ms)
 
 pub spans_start : (n : ℕ) (ms : List SingleMessage) → Spans n ms empty_span 0
 spans_start n ms = record { origin = refl; small = omega arith; all = refl; sum = omega arith }
 
-pub spans_step : (n : ℕ) (ms : List SingleMessage) (s : Span) (i : ℕ) (d : SingleMessage) → i < length ms → Spans n ms s i
-    → Spans n ms (with_item n s (get_or ms i d)) (i + 1)
-unfolding batch_length
-spans_step n ms s i d b h =
-    let m = get_or ms i d in
-    let rest = drop (i + 1) ms in
-    let e : drop i ms ≡ m ∷ rest = rw (add-one) (drop-cons ms i d b) in
-    let t : add_sat s.len (stopped (item_length m + batch_length rest)) ≡ stopped (batch_length ms) =
-    subst (λ (l : List SingleMessage). add_sat s.len (stopped (batch_length l)) ≡ stopped (batch_length ms)) e h.sum in
-    record {
-      origin = h.origin;
-      small = omega arith;
-      all = and_assoc s.inside (single_in n m) (all_in n rest) ∙ subst (λ (l : List SingleMessage). (s.inside && all_in n l) ≡ all_in n ms) e h.all;
-      sum = sat_two s.len (item_length m) (batch_length rest) ∙ t;
-    }
+module _ (n : ℕ) (ms : List SingleMessage) (s : Span) (i : ℕ) (d : SingleMessage) (b : i < length ms) (h : Spans n ms s i) where
+  next : drop i ms ≡ get_or ms i d ∷ drop (i + 1) ms
+  next = rw (add-one) (drop-cons ms i d b)
 
-pub spans_all : (n : ℕ) (ms : List SingleMessage) (s : Span) (i : ℕ) → length ms ≤ i → Spans n ms s i → s ≡ batch_span n ms
+  grown : Span
+  grown = record { start = s.start; len = add_sat s.len (stopped (item_length (get_or ms i d))) }
+
+  step : single_in n (get_or ms i d) ≡ true → Spans n ms grown (i + 1)
+  unfolding batch_length grown
+  step e =
+      let m = get_or ms i d in
+      let rest = drop (i + 1) ms in
+      let t : add_sat s.len (stopped (item_length m + batch_length rest)) ≡ stopped (batch_length ms) =
+      subst (λ (l : List SingleMessage). add_sat s.len (stopped (batch_length l)) ≡ stopped (batch_length ms)) next h.sum in
+      record {
+        origin = h.origin;
+        small = omega arith;
+        all = sym (ap (λ (x : Bool). x && all_in n rest) e) ∙ subst (λ (l : List SingleMessage). all_in n l ≡ all_in n ms) next h.all;
+        sum = sat_two s.len (item_length m) (batch_length rest) ∙ t;
+      }
+
+  pub spans_step : (t : Span) → with_item n s (get_or ms i d) ≡ Some t → Spans n ms t (i + 1)
+  unfolding grown
+  spans_step t e =
+      let h = some_picked (single_in n (get_or ms i d)) grown t e in
+      subst (λ (x : Span). Spans n ms x (i + 1)) h.1 (step h.0)
+
+  pub spans_stop : with_item n s (get_or ms i d) ≡ None → None ≡ batch_span n ms
+  unfolding grown
+  spans_stop e =
+      let q = none_picked (single_in n (get_or ms i d)) grown e in
+      let out : false ≡ all_in n ms =
+      sym (ap (λ (x : Bool). x && all_in n (drop (i + 1) ms)) q) ∙ subst (λ (l : List SingleMessage). all_in n l ≡ all_in n ms) next h.all in
+      ap (λ (x : Bool). pick x (Some (record { start = 0; len = stopped (batch_length ms) })) None) out
+
+pub spans_all : (n : ℕ) (ms : List SingleMessage) (s : Span) (i : ℕ) → length ms ≤ i → Spans n ms s i → Some s ≡ batch_span n ms
 unfolding batch_length
 spans_all n ms s i b h =
     let none = drop_of_length-le ms b in
-    let inside : s.inside ≡ all_in n ms =
-    sym (and_true s.inside) ∙ subst (λ (l : List SingleMessage). (s.inside && all_in n l) ≡ all_in n ms) none h.all in
+    let inside : true ≡ all_in n ms = subst (λ (l : List SingleMessage). all_in n l ≡ all_in n ms) none h.all in
     let t : add_sat s.len (stopped 0) ≡ stopped (batch_length ms) =
     subst (λ (l : List SingleMessage). add_sat s.len (stopped (batch_length l)) ≡ stopped (batch_length ms)) none h.sum in
     let small = h.small in
     let len : s.len ≡ stopped (batch_length ms) = omega arith in
-    λ j. record { inside = inside j; start = h.origin j; len = len j }
+    λ j. pick (inside j) (Some (record { start = h.origin j; len = len j })) None
 
 pub single_in_lem : (n : ℕ) (m : SingleMessage) → single_in n m ≡ true → InStore n m
 single_in_lem n m e =

@@ -1,5 +1,5 @@
 -- The payload of the front frame. These mirror the code: what a reader must believe is in crate `queue`.
-use Rattle.std.specs.Prelude.{ℕ, ◌+◌, ◌-◌, ◌*◌, min, Bool, true, false, ◌&&◌, List, leb, eqb}
+use Rattle.std.specs.Prelude.{ℕ, ◌+◌, ◌-◌, ◌*◌, min, Bool, true, false, ◌&&◌, List, leb, eqb, Option, Some, None}
 use Rattle.laws.specs.Choice.{pick}
 use Rattle.laws.specs.Numbers.{add_sat}
 use Rattle.types.specs.Values.{part_in, maybe_in}
@@ -31,28 +31,23 @@ piece_len Single len skip = len
 piece_len (Batch b) len skip = len
 piece_len (Chunked c) len skip = min c.max_chunk_size (len - skip)
 
-abbrev pub span_at : ℕ → OutgoingMessage → ℕ → ℕ → Span
+abbrev pub span_at : ℕ → OutgoingMessage → ℕ → ℕ → Option Span
 span_at n m skip len =
-    record {
-      inside = borne n m (leb (m.payload.start + skip + len) n);
-      start = add_sat m.payload.start skip;
-      len = len;
-    }
+    pick (borne n m (leb (m.payload.start + skip + len) n)) (Some (record { start = add_sat m.payload.start skip; len = len })) None
 
-abbrev pub message_span : ℕ → FrameRecord → Span
+abbrev pub message_span : ℕ → FrameRecord → Option Span
 message_span n r =
     let skip = skip_of r.kind in
     span_at n r.message skip (piece_len r.kind r.message.payload.len skip)
 
 abbrev pub empty_span : Span
-empty_span = record { inside = true; start = 0; len = 0 }
+empty_span = record { start = 0; len = 0 }
 
-abbrev pub with_item : ℕ → Span → SingleMessage → Span
-with_item n s m =
-    record { inside = s.inside && single_in n m; start = s.start; len = add_sat s.len (stopped (item_length m)) }
+abbrev pub with_item : ℕ → Span → SingleMessage → Option Span
+with_item n s m = pick (single_in n m) (Some (record { start = s.start; len = add_sat s.len (stopped (item_length m)) })) None
 
-abbrev pub batch_span : ℕ → List SingleMessage → Span
-batch_span n ms = record { inside = all_in n ms; start = 0; len = stopped (batch_length ms) }
+abbrev pub batch_span : ℕ → List SingleMessage → Option Span
+batch_span n ms = pick (all_in n ms) (Some (record { start = 0; len = stopped (batch_length ms) })) None
 
 abbrev pub is_batch : FrameKind → Bool
 is_batch Single = false
@@ -64,6 +59,6 @@ held_count Single held = 0
 held_count (Batch b) held = min b.num_messages (min held 512)
 held_count (Chunked c) held = 0
 
-abbrev pub span_of : ℕ → FrameRecord → FrameKind → List SingleMessage → Span
+abbrev pub span_of : ℕ → FrameRecord → FrameKind → List SingleMessage → Option Span
 span_of n r k ms =
     pick (is_batch k) (batch_span n ms) (span_at n r.message (skip_of k) (piece_len k r.message.payload.len (skip_of k)))

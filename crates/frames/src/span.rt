@@ -9,11 +9,9 @@ use types::frame::{FrameKind, FrameRecord};
 use types::message::SingleMessage;
 use wire::batch::item_len;
 
-// The payload of the front frame.
+// The payload of a frame of which all that it bears lies in the store.
 #[derive(Clone, Copy)]
 pub struct Span {
-    // Whether all that the frame bears lies in the store.
-    pub inside: bool,
     // Where a message's payload starts in the store.
     pub start: usize,
     pub len: usize,
@@ -39,17 +37,17 @@ fn piece_len(kind: FrameKind, len: usize, skip: usize) -> usize
 }
 
 // Of a frame with a single message or with the next chunk of one.
-pub fn message_span(front: FrameRecord, n: usize) -> Span
+pub fn message_span(front: FrameRecord, n: usize) -> Option<Span>
     ensures { result ≡ message_span n front }
 {
     let payload = front.message.payload;
     let skip = skip_of(front.kind);
     let len = piece_len(front.kind, payload.len, skip);
-    Span {
-        inside: message_inside(piece_inside(payload.start, skip, len, n), front.message, n),
+    let inside = message_inside(piece_inside(payload.start, skip, len, n), front.message, n);
+    inside.then_some(Span {
         start: payload.start.saturating_add(skip),
         len,
-    }
+    })
 }
 
 pub fn is_batch(kind: FrameKind) -> bool
@@ -72,35 +70,30 @@ pub fn held_count(kind: FrameKind, held_len: usize) -> usize
 pub fn empty_span() -> Span
     ensures { result ≡ empty_span }
 {
-    Span {
-        inside: true,
-        start: 0,
-        len: 0,
-    }
+    Span { start: 0, len: 0 }
 }
 
 // With one more message of a batch.
-pub fn with_item(span: Span, m: SingleMessage, n: usize) -> Span
+pub fn with_item(span: Span, m: SingleMessage, n: usize) -> Option<Span>
     ensures { result ≡ with_item n span m }
 {
-    Span {
-        inside: span.inside && single_inside(m, n),
+    single_inside(m, n).then_some(Span {
         len: span.len.saturating_add(item_len(m)),
         ..span
-    }
+    })
 }
 
 // Of the first `count` of the held messages.
-pub fn batch_span(held: [SingleMessage; 512], head: usize, count: usize, n: usize) -> Span
+pub fn batch_span(held: [SingleMessage; 512], head: usize, count: usize, n: usize) -> Option<Span>
     requires { count ≤ 512 }
     ensures { result ≡ batch_span n (ring 512 held head count) }
 {
     let ring = Ring::<512> { head, len: count };
     let mut span = empty_span();
     for i in 0..count {
-        span = with_item(span, held[ring.slot(i)], n);
+        span = with_item(span, held[ring.slot(i)], n)?;
     }
-    span
+    Some(span)
 }
 
 pub fn payload_span(
@@ -109,7 +102,7 @@ pub fn payload_span(
     head: usize,
     count: usize,
     n: usize,
-) -> Span
+) -> Option<Span>
     requires { count ≤ 512 }
     ensures { result ≡ span_of n front front.kind (ring 512 held head count) }
 {

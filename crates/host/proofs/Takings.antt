@@ -1,28 +1,26 @@
 -- A take by its plan: a frame that goes out lies in the store and fits, and its payload is all that is written.
-use Rattle.std.specs.Prelude.{Err, Ok, Result}
-use Rattle.std.proofs.Common.{◌≡◌, ℕ, ◌+◌, ◌-◌, ◌^◌, ◌<◌, ◌≤◌, min, Bool, true, false, ◌&&◌, eqb, ltb, leb, List, ◌++◌, length, take, drop, sym, refl, ap, ◌∙◌, subst, append_assoc, arith, length-append, length-drop, length-take-le, take_at, drop_at, ltb-false, leb-true}
+use Rattle.std.specs.Prelude.{Err, None, Ok, Option, Some}
+use Rattle.std.proofs.Common.{◌≡◌, ℕ, ◌+◌, ◌-◌, ◌^◌, ◌<◌, ◌≤◌, Bool, true, false, eqb, ltb, List, ◌++◌, length, take, drop, sym, refl, ap, ◌∙◌, subst, append_assoc, arith, length-append, length-drop, length-take-le, take_at, drop_at, ltb-false, leb-true}
 use native.Mathlib.Nat.{add-sub_cancel_left}
 use Rattle.laws.specs.Choice.{pick}
 use Rattle.laws.specs.Numbers.{add_sat}
-use Rattle.laws.proofs.Choice.{and_left, differ}
-use Rattle.types.specs.Values.{part_in, maybe_in}
-use Rattle.types.specs.declared.error.ProducerError.TheVariants.{NoFrame, PartOutside, TooShort}
+use Rattle.laws.proofs.Choice.{differ}
+use Rattle.types.specs.Values.{part_in}
+use Rattle.types.specs.declared.error.ProducerError.TheVariants.{NoFrame, TooShort}
 use Rattle.types.specs.declared.frame.FrameRecord.{FrameRecord}
-use Rattle.types.specs.declared.frame.FrameKind.{FrameKind}
-use Rattle.types.specs.declared.frame.FrameKind.TheVariants.{Single, Batch, Chunked}
-use Rattle.types.specs.declared.message.OutgoingMessage.{OutgoingMessage}
 use Rattle.types.specs.declared.message.SingleMessage.{SingleMessage}
-use Rattle.types.specs.declared.types.ProducerHandle.{ProducerHandle}
 use Rattle.wire.specs.Batch.{item, item_of, InStore}
 use Rattle.wire.specs.Buffer.{Room, Puts}
 use Rattle.wire.specs.Length.{stopped, item_length}
 use Rattle.wire.proofs.Lengths.{item_length_lem}
 use Rattle.wire.proofs.Writes.{same}
 use Rattle.queue.specs.Frame.{single_in}
-use Rattle.frames.specs.Span.{name_in, skip_of, piece_len, span_at, message_span}
+use Rattle.frames.specs.Span.{skip_of, piece_len, message_span}
+use Rattle.frames.specs.Answer.{fitting}
 use Rattle.frames.specs.declared.span.Span.{Span}
 use Rattle.frames.proofs.Batches.{single_in_lem}
-use Rattle.plans.specs.Take.{plan_with, take_planned}
+use Rattle.frames.proofs.Pieces.{piece_of}
+use Rattle.plans.specs.Take.{plan_of, plan_with, take_planned}
 use Rattle.plans.specs.declared.state.Core.{Core}
 use Rattle.plans.specs.declared.take.TakePlan.{TakePlan}
 use Rattle.script.specs.Output.{Wrote}
@@ -30,48 +28,39 @@ use Rattle.host.specs.Framing.{Completes}
 use Rattle.script.proofs.Outputs.{further}
 use Rattle.host.proofs.Framing.{lent}
 use Rattle.host.specs.Lays.{Message}
-use Rattle.types.specs.declared.error.ProducerError.{ProducerError}
 
 -- ── what a frame that goes out has passed ──
 
-record Passed (empty inside short : Bool) : Type 0 where
-  some : empty ≡ false
-  within : inside ≡ true
-  long : short ≡ false
+pub record Goes (o : Option Span) (p : TakePlan) (room : ℕ) : Type 0 where
+  pub inside : o ≡ Some p.span
+  pub fits : p.span.len ≤ room
 
-passes : (z i t : Bool) (m p : TakePlan)
-    → plan_with (pick z (Err NoFrame) (pick i (pick t (Err TooShort) (Ok tt)) (Err PartOutside))) m ≡ Ok p → Passed z i t
-passes true i t m p e = differ (cc)
-passes false true true m p e = differ (cc)
-passes false true false m p e = record { some = refl; within = refl; long = refl }
-passes false false t m p e = differ (cc)
+module _ (c : Core) (r : FrameRecord) (count room : ℕ) (p : TakePlan) where
+  fitted : (s : Span) (short : Bool) → ltb room s.len ≡ short → plan_with c r count (pick short (Err TooShort) (Ok s)) ≡ Ok p → Goes (Some s) p room
+  fitted s true h e = differ (cc)
+  fitted s false h e =
+      let plan : plan_of c r count s ≡ p = cc in
+      let span : s ≡ p.span = ap (λ (q : TakePlan). q.span) plan in
+      record { inside = ap Some span; fits = subst (λ (x : Span). x.len ≤ room) span (ltb-false room s.len h) }
 
-pub record Goes (s : Span) (room : ℕ) : Type 0 where
-  pub inside : s.inside ≡ true
-  pub fits : s.len ≤ room
+  passed : (empty : Bool) (o : Option Span) → plan_with c r count (pick empty (Err NoFrame) (fitting o room)) ≡ Ok p → Goes o p room
+  passed true o e = differ (cc)
+  passed false None e = differ (cc)
+  passed false (Some s) e = fitted s (ltb room s.len) refl e
 
-pub goes : (c : Core) (r : FrameRecord) (s : Span) (count room : ℕ) (p : TakePlan) → Ok p ≡ take_planned c r s count room → Goes s room
-goes c r s count room p e =
-    let h = passes (eqb c.rings.outbound.len 0) s.inside (ltb room s.len) _ p (sym e) in
-    record { inside = h.within; fits = ltb-false room s.len h.long }
+  pub goes : (o : Option Span) → Ok p ≡ take_planned c r o count room → Goes o p room
+  goes o e = passed (eqb c.rings.outbound.len 0) o (sym e)
 
 -- ── where a message's payload lies ──
 
-piece_end : (n : ℕ) (m : OutgoingMessage) (skip len : ℕ) → n < 2 ^ 64 → (span_at n m skip len).inside ≡ true → add_sat m.payload.start skip + len ≤ n
-piece_end n m skip len small t =
-    let p = leb (m.payload.start + skip + len) n in
-    let x = maybe_in n m.partition_key in
-    let y = maybe_in n m.ordering_key in
-    let z = maybe_in n m.schema_version in
-    let b = leb-true (m.payload.start + skip + len) n
-    (and_left p x (and_left (p && x) y (and_left (p && x && y) z (and_left (p && x && y && z) (name_in n m.producer_name) t)))) in
-    let q : add_sat m.payload.start skip ≡ m.payload.start + skip = omega arith in
-    subst (λ (j : ℕ). j + len ≤ n) (sym q) b
-
-pub part_end : (n : ℕ) (r : FrameRecord) (s : Span) → s ≡ message_span n r → n < 2 ^ 64 → s.inside ≡ true → s.start + s.len ≤ n
-part_end n r s e small i =
-    subst (λ (q : Span). q.inside ≡ true → q.start + q.len ≤ n) (sym e)
-    (piece_end n r.message (skip_of r.kind) (piece_len r.kind r.message.payload.len (skip_of r.kind)) small) i
+pub part_end : (n : ℕ) (r : FrameRecord) (s : Span) → message_span n r ≡ Some s → n < 2 ^ 64 → s.start + s.len ≤ n
+part_end n r s e small =
+    let skip = skip_of r.kind in
+    let len = piece_len r.kind r.message.payload.len skip in
+    let h = piece_of n r.message skip len s e in
+    let b = h.within in
+    let q : add_sat r.message.payload.start skip ≡ r.message.payload.start + skip = omega arith in
+    subst (λ (x : Span). x.start + x.len ≤ n) h.same (subst (λ (j : ℕ). j + len ≤ n) (sym q) b)
 
 -- ── what is written ──
 
@@ -107,17 +96,17 @@ part_length store s h = rw add-sub_cancel_left (length-take-le s.len (drop s.sta
 pub part_room : {store before : List ℕ} {s : Span} → Message store s before → Room (take (s.start + s.len - s.start) (drop s.start store)) 0 before
 part_room {store} {before} {s} m = let l = part_length store s m.inside in let h = m.room in record { fits = omega arith }
 
-module _ (store d : List ℕ) (start end : ℕ) (h : start ≤ end) (k : end ≤ length d) (c : Core) (r : FrameRecord) (s : Span) (count : ℕ) (p : TakePlan)
-    (planned : Ok p ≡ take_planned c r s count (end - start)) where
+module _ (store d : List ℕ) (start end : ℕ) (h : start ≤ end) (k : end ≤ length d) (c : Core) (r : FrameRecord) (o : Option Span) (count : ℕ) (p : TakePlan)
+    (planned : Ok p ≡ take_planned c r o count (end - start)) where
   buffer_length : length (take (end - start) (drop start d)) ≡ end - start
   buffer_length = length-take-le (end - start) (drop start d) (rw length-drop (omega arith))
 
-  pub message : s ≡ message_span (length store) r → length store < 2 ^ 64 → Message store s (take (end - start) (drop start d))
+  pub message : o ≡ message_span (length store) r → length store < 2 ^ 64 → Message store p.span (take (end - start) (drop start d))
   message e small =
-      let g = goes c r s count (end - start) p planned in
+      let g = goes c r count (end - start) p o planned in
       let f = g.fits in
       let l = buffer_length in
-      record { inside = part_end (length store) r s e small g.inside; room = omega arith }
+      record { inside = part_end (length store) r p.span (sym e ∙ g.inside) small; room = omega arith }
 
 -- what was laid out stands in the output, and the answer is put around it
 pub took : {d ys e : List ℕ} {to start end r m n : ℕ} → start ≤ end → end ≤ length d → Wrote 0 (take (end - start) (drop start d)) ys m → m ≡ n

@@ -98,9 +98,11 @@ pub(crate) fn run_in_place(head: Head, out: &mut Output)
                     let buffer = buffer_of(task, out);
                     let first = c.rings.held.head;
                     let count = held_count(front.kind, c.rings.held.len);
-                    let mut span = empty_span();
+                    let mut span = Some(empty_span());
                     for i in 0..count {
-                        span = with_item(span, s.held[slot(512, first, i)], lent.len());
+                        if let Some(so_far) = span {
+                            span = with_item(so_far, s.held[slot(512, first, i)], lent.len());
+                        }
                     }
                     match c.plan_take(front, span, count, buffer.end - buffer.start) {
                         Ok(p) => {

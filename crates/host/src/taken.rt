@@ -42,8 +42,8 @@ pub(crate) fn take_message(
     let span = message_span(front, lent.len());
     match c.plan_take(front, span, 0, buffer.end - buffer.start) {
         Ok(plan) => {
-            lay_message(&mut out.bytes[buffer.start..buffer.end], lent, span);
-            put_frame(out, buffer.start, span.len, lent, plan.frame);
+            lay_message(&mut out.bytes[buffer.start..buffer.end], lent, plan.span);
+            put_frame(out, buffer.start, plan.span.len, lent, plan.frame);
             Some(plan)
         }
         Err(e) => {

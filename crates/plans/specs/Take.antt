@@ -1,5 +1,5 @@
 -- What the plan of a take answers. These mirror the code: what a reader must believe is in crate `queue`.
-use Rattle.std.specs.Prelude.{ℕ, ◌+◌, ◌-◌, ◌%◌, min, Bool, Err, Ok, Result}
+use Rattle.std.specs.Prelude.{ℕ, ◌+◌, ◌-◌, ◌%◌, min, Bool, Err, Ok, Option, Result}
 use Rattle.laws.specs.Choice.{pick}
 use Rattle.types.specs.declared.frame.FrameRecord.{FrameRecord}
 use Rattle.rules.specs.declared.rings.Rings.{Rings}
@@ -34,14 +34,19 @@ rings_taken stays count r =
 abbrev pub core_taken : Bool → ℕ → Core → Core
 core_taken stays count c = core_rings (rings_taken stays count c.rings) c
 
-abbrev pub plan_with : Result (Unit {0}) ProducerError → TakePlan → Result TakePlan ProducerError
-plan_with (Ok x) p = Ok p
-plan_with (Err e) p = Err e
-
-abbrev pub take_planned : Core → FrameRecord → Span → ℕ → ℕ → Result TakePlan ProducerError
-take_planned c r s count room =
-    plan_with (answer_of c.rings.outbound.len s room) (record {
+-- with the span of a frame that goes out
+abbrev pub plan_of : Core → FrameRecord → ℕ → Span → TakePlan
+plan_of c r count s =
+    record {
+      span = s;
       core = core_taken (stays_of r.kind) count c;
       slot = record_after r r.kind;
       frame = frame_out c.handle r r.kind s.len;
-    })
+    }
+
+abbrev pub plan_with : Core → FrameRecord → ℕ → Result Span ProducerError → Result TakePlan ProducerError
+plan_with c r count (Ok s) = Ok (plan_of c r count s)
+plan_with c r count (Err e) = Err e
+
+abbrev pub take_planned : Core → FrameRecord → Option Span → ℕ → ℕ → Result TakePlan ProducerError
+take_planned c r s count room = plan_with c r count (answer_of c.rings.outbound.len s room)

@@ -15,6 +15,8 @@ use types::outbound::OutboundFrame;
 // Of a frame that goes out.
 #[derive(Clone, Copy)]
 pub struct TakePlan {
+    // Where its payload lies.
+    pub span: Span,
     pub core: Core,
     // What then stands in the front record's slot.
     pub slot: FrameRecord,
@@ -51,14 +53,15 @@ impl Core {
     pub fn plan_take(
         self,
         front: FrameRecord,
-        span: Span,
+        span: Option<Span>,
         count: usize,
         room: usize,
     ) -> Result<TakePlan, ProducerError>
         ensures { result ≡ take_planned self front span count room }
     {
-        answer_of(self.rings.outbound.len, span, room)?;
+        let span = answer_of(self.rings.outbound.len, span, room)?;
         Ok(TakePlan {
+            span,
             core: self.taken(stays(front.kind), count),
             slot: record_after(front),
             frame: frame_of(self.handle, front, span.len),

@@ -1,15 +1,14 @@
 -- A take, from the plan to the queue of the definitions: the frame that the plan answers is the first of the front record, and the
 -- state after it has the rest. Assumes nothing.
-use Rattle.std.specs.Prelude.{Err, None, Ok, Result, Some}
-use Rattle.std.proofs.Common.{◌≡◌, ℕ, ◌+◌, ◌-◌, ◌*◌, ◌%◌, ◌^◌, ◌<◌, ◌≤◌, min, Bool, true, false, ◌&&◌, ltb, leb, List, [], ◌∷◌, ◌++◌, length, get_or, take, drop, set, sym, refl, ap, ◌∙◌, subst, add-zero, zero-add, arith, lit<, length-drop, length-set, length-take-le, take_all, take_at, ltb-false, le-ltb, lt-ltb, eq-eqb, ne_eqb, leb-true}
+use Rattle.std.specs.Prelude.{Err, None, Ok, Option, Result, Some}
+use Rattle.std.proofs.Common.{◌≡◌, ℕ, ◌+◌, ◌-◌, ◌*◌, ◌%◌, ◌^◌, ◌<◌, ◌≤◌, min, Bool, true, false, ltb, leb, List, [], ◌∷◌, ◌++◌, length, get_or, take, drop, set, sym, refl, ap, ◌∙◌, subst, add-zero, zero-add, arith, lit<, length-drop, length-set, length-take-le, take_all, take_at, ltb-false, le-ltb, lt-ltb, eq-eqb, ne_eqb}
 use native.Mathlib.Decide.{dec_lt}
 use Rattle.laws.specs.Choice.{pick}
 use Rattle.laws.specs.Numbers.{add_sat}
 use Rattle.laws.specs.Ring.{ring, slot}
-use Rattle.laws.proofs.Choice.{pick_true, pick_false}
+use Rattle.laws.proofs.Choice.{pick_true, pick_false, differ, false_true}
 use Rattle.laws.proofs.Rings.{length_ring, ring_set, ring_take, ring_drop, ring_drops, ring_pop, ring_none}
 use Rattle.laws.proofs.Slots.{slot_zero}
-use Rattle.types.specs.Values.{maybe_in}
 use Rattle.types.specs.declared.error.ProducerError.TheVariants.{NoFrame, PartOutside, TooShort}
 use Rattle.types.specs.declared.frame.BatchFrame.{BatchFrame}
 use Rattle.types.specs.declared.frame.FrameRecord.{FrameRecord}
@@ -19,7 +18,7 @@ use Rattle.types.specs.declared.message.SingleMessage.{SingleMessage}
 use Rattle.types.specs.declared.outbound.OutboundFrame.{OutboundFrame}
 use Rattle.wire.specs.Batch.{batch_payload}
 use Rattle.wire.specs.Buffer.{Room, Puts}
-use Rattle.wire.specs.Length.{stopped}
+use Rattle.wire.specs.Length.{stopped, batch_length}
 use Rattle.wire.proofs.Lengths.{batch_length_lem}
 use Rattle.queue.specs.Queue.{Queue, Answer, refuse, with_out, done}
 use Rattle.queue.specs.Frame.{Frame, message_frame, first_frame, frame_in, all_in}
@@ -27,16 +26,17 @@ use Rattle.queue.specs.Take.{with_kind, next_chunk, rest_of, holds, taken, take_
 use Rattle.queue.specs.Told.{Kept}
 use Rattle.queue.specs.Batch.{at_least_one}
 use Rattle.wire.specs.Uuid.{uuid_text}
-use Rattle.laws.proofs.Choice.{and_left, differ}
-use Rattle.frames.specs.Span.{borne, name_in, span_at, span_of, is_batch, held_count}
+use Rattle.frames.specs.Span.{borne, span_of, is_batch, held_count}
 use Rattle.frames.specs.Payload.{payload_of, Writable}
-use Rattle.frames.specs.Answer.{answer_of}
+use Rattle.frames.specs.Answer.{fitting, answer_of}
 use Rattle.frames.specs.Outbound.{present_if, frame_out}
 use Rattle.frames.specs.After.{has_next, stays_of, record_after}
-use Rattle.plans.specs.Take.{core_taken, plan_with, take_planned}
+use Rattle.plans.specs.Take.{core_taken, plan_of, plan_with, take_planned}
+use Rattle.plans.specs.declared.state.Core.{Core}
 use Rattle.frames.specs.declared.span.Span.{Span}
 use Rattle.plans.specs.declared.take.TakePlan.{TakePlan}
 use Rattle.frames.proofs.Batches.{all_in_lem}
+use Rattle.frames.proofs.Pieces.{some_picked, is_there, there_if, piece_of}
 use Rattle.producer.specs.View.{view}
 use Rattle.producer.specs.Take.{frame_told, told_frame}
 use Rattle.producer.specs.declared.state.ProducerState.{ProducerState}
@@ -81,20 +81,27 @@ stop_short : (x : ℕ) → x < 2 ^ 63 → x ≡ stopped x
 stop_short x b = omega arith
 
 -- an answer is one of the two
-not_both : {P : Type 0} {o : Result (Unit {0}) ProducerError} (e : ProducerError) → o ≡ Err e → o ≡ Ok tt → P
-not_both e a t = differ (cc)
+not_both : {P : Type 0} {o : Result Span ProducerError} (e : ProducerError) (g : Span) → o ≡ Err e → o ≡ Ok g → P
+not_both e g a t = differ (cc)
 
-same_err : (e f : ProducerError) → ◌≡◌ {A = Result (Unit {0}) ProducerError} (Err e) (Err f) → e ≡ f
+same_err : (e f : ProducerError) → ◌≡◌ {A = Result Span ProducerError} (Err e) (Err f) → e ≡ f
 same_err e f t = cc
 
 -- what a plan tells of its test
-ok_planned : (o : Result (Unit {0}) ProducerError) (m p : TakePlan) → plan_with o m ≡ Ok p → (o ≡ Ok tt) × (m ≡ p)
-ok_planned (Ok x) m p e = (refl, cc)
-ok_planned (Err x) m p e = differ (cc)
+record Planned (c : Core) (r : FrameRecord) (count : ℕ) (o : Result Span ProducerError) (p : TakePlan) : Type 0 where
+  goes : o ≡ Ok p.span
+  same : plan_of c r count p.span ≡ p
 
-err_planned : (o : Result (Unit {0}) ProducerError) (m : TakePlan) (f : ProducerError) → plan_with o m ≡ Err f → o ≡ Err f
-err_planned (Ok x) m f e = differ (cc)
-err_planned (Err x) m f e = let same : x ≡ f = cc in ap Err same
+ok_planned : (c : Core) (r : FrameRecord) (count : ℕ) (o : Result Span ProducerError) (p : TakePlan) → plan_with c r count o ≡ Ok p → Planned c r count o p
+ok_planned c r count (Ok x) p e =
+    let same : plan_of c r count x ≡ p = cc in
+    let span : x ≡ p.span = ap (λ (q : TakePlan). q.span) same in
+    record { goes = ap Ok span; same = subst (λ (y : Span). plan_of c r count y ≡ p) span same }
+ok_planned c r count (Err x) p e = differ (cc)
+
+err_planned : (c : Core) (r : FrameRecord) (count : ℕ) (o : Result Span ProducerError) (f : ProducerError) → plan_with c r count o ≡ Err f → o ≡ Err f
+err_planned c r count (Ok x) f e = differ (cc)
+err_planned c r count (Err x) f e = let same : x ≡ f = cc in ap Err same
 
 num_if : (b : Bool) (n : ℕ) → (present_if b n) ≡ pick b (Some n) None
 num_if true n = refl
@@ -209,38 +216,27 @@ module _ (s : ProducerState) (f : Full s) (d : FrameRecord) where
   -- ── the frame ──
 
   module _ (store : List ℕ) (r : FrameRecord) where
-    abbrev pub span_for : FrameKind → Span
+    abbrev pub span_for : FrameKind → Option Span
     span_for k = span_of (length store) r k (first_of k)
 
     abbrev frame_for : FrameKind → Frame
     frame_for k = first_frame store s.core.handle r k held_list
 
-    inside_is : (k : FrameKind) → frame_in (length store) r k held_list ≡ (span_for k).inside
+    inside_is : (k : FrameKind) → frame_in (length store) r k held_list ≡ is_there (span_for k)
     inside_is Single =
         let p = r.message.payload in
-        ap (λ (j : ℕ). borne (length store) r.message (leb (j + p.len) (length store))) (sym (add-zero p.start))
-    inside_is (Batch b) = ap (all_in (length store)) (sym (first_is b))
-    inside_is (Chunked c) = refl
+        ap (λ (j : ℕ). borne (length store) r.message (leb (j + p.len) (length store))) (sym (add-zero p.start)) ∙ there_if _ _
+    inside_is (Batch b) = ap (all_in (length store)) (sym (first_is b)) ∙ there_if _ _
+    inside_is (Chunked c) = there_if _ _
 
     -- what is written, how much it is, and that it can be read from the store
-    record Written (k : FrameKind) : Type 0 where
-      bytes : payload_of store k (span_for k) (first_of k) ≡ (frame_for k).payload
-      size : stopped (length (frame_for k).payload) ≡ (span_for k).len
-      own : is_batch k ≡ false → (span_for k).start + (span_for k).len ≤ length store
+    record Written (k : FrameKind) (g : Span) : Type 0 where
+      bytes : payload_of store k g (first_of k) ≡ (frame_for k).payload
+      size : stopped (length (frame_for k).payload) ≡ g.len
+      own : is_batch k ≡ false → g.start + g.len ≤ length store
       held : is_batch k ≡ true → all_in (length store) (first_of k) ≡ true
 
     module _ (small : length store < 2 ^ 63) where
-      piece_end : (skip len : ℕ) → (span_at (length store) r.message skip len).inside ≡ true → r.message.payload.start + skip + len ≤ length store
-      piece_end skip len e =
-          let n = length store in
-          let m = r.message in
-          let p = leb (m.payload.start + skip + len) n in
-          let x = maybe_in n m.partition_key in
-          let y = maybe_in n m.ordering_key in
-          let z = maybe_in n m.schema_version in
-          leb-true (m.payload.start + skip + len) n
-          (and_left p x (and_left (p && x) y (and_left (p && x && y) z (and_left (p && x && y && z) (name_in n m.producer_name) e))))
-
       piece_start : (skip len : ℕ) → r.message.payload.start + skip + len ≤ length store → add_sat r.message.payload.start skip ≡ r.message.payload.start + skip
       piece_start skip len e = omega arith
 
@@ -249,48 +245,42 @@ module _ (s : ProducerState) (f : Full s) (d : FrameRecord) where
           let l : length (take len (drop start store)) ≡ len = length-take-le len (drop start store) (rw length-drop (omega arith)) in
           ap stopped l ∙ omega arith
 
-      written_is : (k : FrameKind) → (span_for k).inside ≡ true → Written k
-      written_is Single e =
+      written_is : (k : FrameKind) (g : Span) → span_for k ≡ Some g → Written k g
+      written_is Single g e =
           let p = r.message.payload in
-          let b = piece_end 0 p.len e in
+          let h = piece_of (length store) r.message 0 p.len g e in
+          let b = h.within in
           let z : p.start + 0 ≡ p.start = add-zero p.start in
           let q : add_sat p.start 0 ≡ p.start = piece_start 0 p.len b ∙ z in
-          record {
+          subst (Written Single) h.same (record {
             bytes = ap (λ (j : ℕ). take p.len (drop j store)) q;
             size = piece_size p.start p.len (omega arith);
             own = λ t. omega arith;
-            held = λ t. differ (false_is t);
-          }
-        where
-          false_is : false ≡ true → ◌≡◌ {A = ℕ} 0 1
-          false_is t = cc
-      written_is (Batch b) e =
-          record {
+            held = λ t. false_true t;
+          })
+      written_is (Batch b) g e =
+          let h = some_picked (all_in (length store) (first_of (Batch b))) (record { start = 0; len = stopped (batch_length (first_of (Batch b))) }) g e in
+          subst (Written (Batch b)) h.1 (record {
             bytes = ap (batch_payload store) (first_is b);
             size =
                 ap (λ (l : List SingleMessage). stopped (length (batch_payload store l))) (sym (first_is b))
-                ∙ ap stopped (batch_length_lem store (first_of (Batch b)) (all_in_lem (length store) (first_of (Batch b)) e));
-            own = λ t. differ (true_is t);
-            held = λ t. e;
-          }
-        where
-          true_is : true ≡ false → ◌≡◌ {A = ℕ} 0 1
-          true_is t = cc
-      written_is (Chunked c) e =
+                ∙ ap stopped (batch_length_lem store (first_of (Batch b)) (all_in_lem (length store) (first_of (Batch b)) h.0));
+            own = λ t. false_true (sym t);
+            held = λ t. h.0;
+          })
+      written_is (Chunked c) g e =
           let p = r.message.payload in
           let at = c.next_chunk * c.max_chunk_size in
           let len = min c.max_chunk_size (p.len - at) in
-          let b = piece_end at len e in
+          let h = piece_of (length store) r.message at len g e in
+          let b = h.within in
           let q = piece_start at len b in
-          record {
+          subst (Written (Chunked c)) h.same (record {
             bytes = ap (λ (j : ℕ). take len (drop j store)) q;
             size = piece_size (p.start + at) len b;
             own = λ t. subst (λ (j : ℕ). j + len ≤ length store) (sym q) b;
-            held = λ t. differ (false_is t);
-          }
-        where
-          false_is : false ≡ true → ◌≡◌ {A = ℕ} 0 1
-          false_is t = cc
+            held = λ t. false_true t;
+          })
 
     frame_is : (after : List ℕ) (len : ℕ) (k : FrameKind) → take len after ≡ (frame_for k).payload → frame_told store after (frame_out s.core.handle r k len) ≡ frame_for k
     frame_is after len Single e =
@@ -318,10 +308,10 @@ module _ (s : ProducerState) (f : Full s) (d : FrameRecord) where
     abbrev kind : FrameKind
     kind = front_of.kind
 
-    abbrev span : Span
+    abbrev span : Option Span
     span = span_for store front_of kind
 
-    abbrev answer : Result (Unit {0}) ProducerError
+    abbrev answer : Result Span ProducerError
     answer = answer_of s.core.rings.outbound.len span (length before)
 
     nothing : s.core.rings.outbound.len ≡ 0 → next_outbound_frame store (length before) (view s) ≡ refuse 10 (view s)
@@ -337,138 +327,126 @@ module _ (s : ProducerState) (f : Full s) (d : FrameRecord) where
       unfolding next_outbound_frame view
       opened = ap (take_from store (length before) (view s)) (some_waiting p)
 
-      outside : span.inside ≡ false → next_outbound_frame store (length before) (view s) ≡ refuse 2 (view s)
-      outside i = opened ∙ pick_false _ _ (inside_is store front_of kind ∙ i)
+      outside : span ≡ None → next_outbound_frame store (length before) (view s) ≡ refuse 2 (view s)
+      outside i = opened ∙ pick_false _ _ (inside_is store front_of kind ∙ ap is_there i)
 
-      module _ (i : span.inside ≡ true) where
-        test : ltb (length before) (length (frame_for store front_of kind).payload) ≡ ltb (length before) span.len
+      module _ (g : Span) (i : span ≡ Some g) where
+        within : frame_in (length store) front_of kind held_list ≡ true
+        within = inside_is store front_of kind ∙ ap is_there i
+
+        test : ltb (length before) (length (frame_for store front_of kind).payload) ≡ ltb (length before) g.len
         test =
             sym (stopped_test (length before) (length (frame_for store front_of kind).payload) short)
-            ∙ ap (ltb (length before)) (written_is store front_of small kind i).size
+            ∙ ap (ltb (length before)) (written_is store front_of small kind g i).size
 
-        too_short : ltb (length before) span.len ≡ true → next_outbound_frame store (length before) (view s) ≡ refuse 9 (view s)
-        too_short t = opened ∙ pick_true _ _ (inside_is store front_of kind ∙ i) ∙ pick_true _ _ (test ∙ t)
+        too_short : ltb (length before) g.len ≡ true → next_outbound_frame store (length before) (view s) ≡ refuse 9 (view s)
+        too_short t = opened ∙ pick_true _ _ within ∙ pick_true _ _ (test ∙ t)
 
-        goes : ltb (length before) span.len ≡ false
+        goes : ltb (length before) g.len ≡ false
             → next_outbound_frame store (length before) (view s) ≡ (with_out (taken front_of behind (view s).out) (view s), done (frame_for store front_of kind))
-        goes t = opened ∙ pick_true _ _ (inside_is store front_of kind ∙ i) ∙ pick_false _ _ (test ∙ t)
+        goes t = opened ∙ pick_true _ _ within ∙ pick_false _ _ (test ∙ t)
+
+    -- what stands in the way of a frame, or that nothing does
+    answer_none : s.core.rings.outbound.len ≡ 0 → answer ≡ Err NoFrame
+    answer_none z = pick_true _ _ (eq-eqb s.core.rings.outbound.len 0 z)
+
+    answer_some : 0 < s.core.rings.outbound.len → (o : Option Span) → span ≡ o → answer ≡ fitting o (length before)
+    answer_some p o e = pick_false _ _ (ne_eqb s.core.rings.outbound.len 0 (λ z. omega arith)) ∙ ap (λ (x : Option Span). fitting x (length before)) e
 
     -- what a plan that goes through tells
-    record Accepted : Type 0 where
+    record Accepted (g : Span) : Type 0 where
       some : 0 < s.core.rings.outbound.len
-      inside : span.inside ≡ true
-      fits : ltb (length before) span.len ≡ false
+      inside : span ≡ Some g
+      fits : ltb (length before) g.len ≡ false
 
-    accepted : answer ≡ Ok tt → Accepted
-    accepted t = by (dec_lt 0 s.core.rings.outbound.len) span.inside refl (ltb (length before) span.len) refl
+    accepted : (g : Span) → answer ≡ Ok g → Accepted g
+    accepted g t = by (dec_lt 0 s.core.rings.outbound.len) span refl
       where
-        by : Dec (0 < s.core.rings.outbound.len) → (i : Bool) → span.inside ≡ i → (l : Bool) → ltb (length before) span.len ≡ l → Accepted
-        by (no p) i e l x =
-            let z : s.core.rings.outbound.len ≡ 0 = omega arith in
-            let a : answer ≡ Err NoFrame = pick_true _ _ (eq-eqb s.core.rings.outbound.len 0 z) in
-            not_both NoFrame a t
-        by (yes p) false e l x =
-            let a : answer ≡ Err PartOutside = pick_false _ _ (ne_eqb s.core.rings.outbound.len 0 (λ z. omega arith)) ∙ pick_false _ _ e in
-            not_both PartOutside a t
-        by (yes p) true e true x =
-            let a : answer ≡ Err TooShort =
-            pick_false _ _ (ne_eqb s.core.rings.outbound.len 0 (λ z. omega arith)) ∙ pick_true _ _ e ∙ pick_true _ _ x in
-            not_both TooShort a t
-        by (yes p) true e false x =
-            record {
-              some = p;
-              inside = e;
-              fits = x;
-            }
+        fit : 0 < s.core.rings.outbound.len → (x : Span) → span ≡ Some x → (l : Bool) → ltb (length before) x.len ≡ l → Accepted g
+        fit p x e true h = not_both TooShort g (answer_some p (Some x) e ∙ pick_true _ _ h) t
+        fit p x e false h =
+            let out : answer ≡ Ok x = answer_some p (Some x) e ∙ pick_false _ _ h in
+            let found : ◌≡◌ {A = Result Span ProducerError} (Ok x) (Ok g) = sym out ∙ t in
+            let same : x ≡ g = cc in
+            subst Accepted same (record { some = p; inside = e; fits = h })
+
+        by : Dec (0 < s.core.rings.outbound.len) → (o : Option Span) → span ≡ o → Accepted g
+        by (no p) o e = not_both NoFrame g (answer_none (omega arith)) t
+        by (yes p) None e = not_both PartOutside g (answer_some p None e) t
+        by (yes p) (Some x) e = fit p x e (ltb (length before) x.len) refl
 
     refused_is : (err : ProducerError) → answer ≡ Err err → Takes store before before (Err err) s
-    refused_is err t = by (dec_lt 0 s.core.rings.outbound.len) span.inside refl (ltb (length before) span.len) refl
+    refused_is err t = by (dec_lt 0 s.core.rings.outbound.len) span refl
       where
         on : (f : ProducerError) → answer ≡ Err f → Takes store before before (Err f) s → Takes store before before (Err err) s
         on f a = subst (λ (g : ProducerError). Takes store before before (Err g) s) (same_err f err (sym a ∙ t))
 
-        by : Dec (0 < s.core.rings.outbound.len) → (i : Bool) → span.inside ≡ i → (l : Bool) → ltb (length before) span.len ≡ l
+        fit : 0 < s.core.rings.outbound.len → (x : Span) → span ≡ Some x → (l : Bool) → ltb (length before) x.len ≡ l
             → Takes store before before (Err err) s
-        by (no p) i e l x =
-            let z : s.core.rings.outbound.len ≡ 0 = omega arith in
-            on NoFrame (pick_true _ _ (eq-eqb s.core.rings.outbound.len 0 z)) (sym (nothing z), (refl, refl))
-        by (yes p) false e l x =
-            on PartOutside (pick_false _ _ (ne_eqb s.core.rings.outbound.len 0 (λ z. omega arith)) ∙ pick_false _ _ e) (sym (outside p e), (refl, refl))
-        by (yes p) true e true x =
-            on TooShort (pick_false _ _ (ne_eqb s.core.rings.outbound.len 0 (λ z. omega arith)) ∙ pick_true _ _ e ∙ pick_true _ _ x)
-            (sym (too_short p e x), (refl, refl))
-        by (yes p) true e false x =
-            let a : answer ≡ (Ok tt) =
-            pick_false _ _ (ne_eqb s.core.rings.outbound.len 0 (λ z. omega arith)) ∙ pick_true _ _ e ∙ pick_false _ _ x in
-            not_both err t a
+        fit p x e true h = on TooShort (answer_some p (Some x) e ∙ pick_true _ _ h) (sym (too_short p x e h), (refl, refl))
+        fit p x e false h = not_both err x t (answer_some p (Some x) e ∙ pick_false _ _ h)
 
-    -- the payload can be written
-    writable_is : answer ≡ Ok tt → Writable store kind span (first_of kind) before
-    writable_is t =
-        let a = accepted t in
-        let w = written_is store front_of small kind a.inside in
-        let size = w.size in
-        let le : length (frame_for store front_of kind).payload ≤ length before = ltb-false (length before) (length (frame_for store front_of kind).payload) (test a.some a.inside ∙ a.fits) in
-        record {
-          held = w.held;
-          own = w.own;
-          room = subst (λ (bytes : List ℕ). Room bytes 0 before) (sym w.bytes) (record { fits = omega arith });
-        }
+        by : Dec (0 < s.core.rings.outbound.len) → (o : Option Span) → span ≡ o → Takes store before before (Err err) s
+        by (no p) o e = let z : s.core.rings.outbound.len ≡ 0 = omega arith in on NoFrame (answer_none z) (sym (nothing z), (refl, refl))
+        by (yes p) None e = on PartOutside (answer_some p None e) (sym (outside p e), (refl, refl))
+        by (yes p) (Some x) e = fit p x e (ltb (length before) x.len) refl
 
-    done_is : (after : List ℕ) (x : ℕ) → answer ≡ Ok tt → Puts (payload_of store kind span (first_of kind)) 0 before after x
-        → Takes store before after (Ok (frame_out s.core.handle front_of kind span.len)) (state_after front_of)
-    done_is after x t v =
-        let a = accepted t in
-        let w = written_is store front_of small kind a.inside in
-        let bytes : List ℕ = (frame_for store front_of kind).payload in
-        let le : length bytes ≤ length before = ltb-false (length before) (length bytes) (test a.some a.inside ∙ a.fits) in
-        let size : length bytes ≡ span.len = stop_short (length bytes) (omega arith) ∙ w.size in
-        let left : after ≡ bytes ++ drop (length bytes) before =
-        (subst (λ (l : List ℕ). Puts l 0 before after x) w.bytes v).left ∙ ap (λ (k : ℕ). bytes ++ drop k before) (zero-add (length bytes)) in
-        let start : take span.len after ≡ bytes = ap (take span.len) left ∙ take_at bytes (drop (length bytes) before) span.len size in
-        let frame = frame_is store front_of after span.len kind start in (
-          (λ j. (after_is some_message a.some front_of j, done (frame j))) ∙ sym (goes a.some a.inside a.fits),
-          (left ∙ ap (λ (g : Frame). g.payload ++ drop (length g.payload) before) (sym frame), tt),
-        )
+    module _ (g : Span) (t : answer ≡ Ok g) where
+      -- the payload can be written
+      writable_is : Writable store kind g (first_of kind) before
+      writable_is =
+          let a = accepted g t in
+          let w = written_is store front_of small kind g a.inside in
+          let size = w.size in
+          let le : length (frame_for store front_of kind).payload ≤ length before =
+          ltb-false (length before) (length (frame_for store front_of kind).payload) (test a.some g a.inside ∙ a.fits) in
+          record {
+            held = w.held;
+            own = w.own;
+            room = subst (λ (bytes : List ℕ). Room bytes 0 before) (sym w.bytes) (record { fits = omega arith });
+          }
+
+      done_is : (after : List ℕ) (x : ℕ) → Puts (payload_of store kind g (first_of kind)) 0 before after x
+          → Takes store before after (Ok (frame_out s.core.handle front_of kind g.len)) (state_after front_of)
+      done_is after x v =
+          let a = accepted g t in
+          let w = written_is store front_of small kind g a.inside in
+          let bytes : List ℕ = (frame_for store front_of kind).payload in
+          let le : length bytes ≤ length before = ltb-false (length before) (length bytes) (test a.some g a.inside ∙ a.fits) in
+          let size : length bytes ≡ g.len = stop_short (length bytes) (omega arith) ∙ w.size in
+          let left : after ≡ bytes ++ drop (length bytes) before =
+          (subst (λ (l : List ℕ). Puts l 0 before after x) w.bytes v).left ∙ ap (λ (k : ℕ). bytes ++ drop k before) (zero-add (length bytes)) in
+          let start : take g.len after ≡ bytes = ap (take g.len) left ∙ take_at bytes (drop (length bytes) before) g.len size in
+          let frame = frame_is store front_of after g.len kind start in (
+            (λ j. (after_is some_message a.some front_of j, done (frame j))) ∙ sym (goes a.some g a.inside a.fits),
+            (left ∙ ap (λ (h : Frame). h.payload ++ drop (length h.payload) before) (sym frame), tt),
+          )
 
     -- ── from what the code has worked out ──
 
     abbrev held_first : ℕ → List SingleMessage
     held_first count = ring 512 s.held s.core.rings.held.head count
 
-    module _ (got : Span) (count : ℕ) (ce : count ≡ held_count kind s.core.rings.held.len) (se : got ≡ span_of (length store) front_of kind (held_first count)) where
-      as_planned : (P : Span → ℕ → Type 0) → P span (held_count kind s.core.rings.held.len) → P got count
-      as_planned P q =
-          subst (λ (c : ℕ). (x : Span) → x ≡ span_of (length store) front_of kind (held_first c) → P x c) (sym ce)
-          (λ x e. subst (λ (y : Span). P y (held_count kind s.core.rings.held.len)) (sym e) q) got se
+    module _ (got : Option Span) (count : ℕ) (ce : count ≡ held_count kind s.core.rings.held.len) (se : got ≡ span_of (length store) front_of kind (held_first count))
+        (plan : Result TakePlan ProducerError) (pe : plan ≡ take_planned s.core front_of got count (length before)) where
+      planned_is : plan ≡ plan_with s.core front_of (held_count kind s.core.rings.held.len) answer
+      planned_is =
+          pe
+          ∙ ap (λ (o : Option Span). take_planned s.core front_of o count (length before)) se
+          ∙ ap (λ (c : ℕ). take_planned s.core front_of (span_of (length store) front_of kind (held_first c)) c (length before)) ce
 
-      module _ (plan : Result TakePlan ProducerError) (pe : plan ≡ take_planned s.core front_of got count (length before)) where
-        planned_is : plan ≡ take_planned s.core front_of span (held_count kind s.core.rings.held.len) (length before)
-        planned_is =
-            as_planned (λ x c. plan ≡ take_planned s.core front_of x c (length before) → plan ≡ take_planned s.core front_of span (held_count kind s.core.rings.held.len) (length before))
-            (λ e. e) pe
+      pub takes_refused : (e : ProducerError) → plan ≡ Err e → Takes store before before (Err e) s
+      takes_refused e t = refused_is e (err_planned s.core front_of (held_count kind s.core.rings.held.len) answer e (sym planned_is ∙ t))
 
-        abbrev made : TakePlan
-        made =
-            record {
-              core = core_taken (stays_of kind) (held_count kind s.core.rings.held.len) s.core;
-              slot = record_after front_of kind;
-              frame = frame_out s.core.handle front_of kind span.len;
-            }
+      module _ (p : TakePlan) (t : plan ≡ Ok p) where
+        planned : Planned s.core front_of (held_count kind s.core.rings.held.len) answer p
+        planned = ok_planned s.core front_of (held_count kind s.core.rings.held.len) answer p (sym planned_is ∙ t)
 
-        pub takes_refused : (e : ProducerError) → plan ≡ Err e → Takes store before before (Err e) s
-        takes_refused e t = refused_is e (err_planned answer made e (sym planned_is ∙ t))
-
-        pub takes_done : (p : TakePlan) → plan ≡ Ok p → (after : List ℕ) (x : ℕ) → Puts (payload_of store kind got (held_first count)) 0 before after x
+        pub takes_done : (after : List ℕ) (x : ℕ) → Puts (payload_of store kind p.span (held_first count)) 0 before after x
             → Takes store before after (Ok p.frame) (stored_as p)
-        takes_done p t after x v =
-            let both = ok_planned answer made p (sym planned_is ∙ t) in
-            subst (λ (q : TakePlan). Takes store before after (Ok q.frame) (stored_as q)) both.1
-            (done_is after x both.0
-            (as_planned
-            (λ y c. Puts (payload_of store kind y (held_first c)) 0 before after x → Puts (payload_of store kind span (first_of kind)) 0 before after x)
-            (λ w. w) v))
+        takes_done after x v =
+            subst (λ (q : TakePlan). Takes store before after (Ok q.frame) (stored_as q)) planned.same
+            (done_is p.span planned.goes after x (subst (λ (c : ℕ). Puts (payload_of store kind p.span (held_first c)) 0 before after x) ce v))
 
-        pub takes_writable : (p : TakePlan) → plan ≡ Ok p → Writable store kind got (held_first count) before
-        takes_writable p t =
-            as_planned (λ y c. Writable store kind y (held_first c) before) (writable_is (ok_planned answer made p (sym planned_is ∙ t)).0)
+        pub takes_writable : Writable store kind p.span (held_first count) before
+        takes_writable = subst (λ (c : ℕ). Writable store kind p.span (held_first c) before) (sym ce) (writable_is p.span planned.goes)

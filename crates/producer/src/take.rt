@@ -30,7 +30,7 @@ impl ProducerState {
         let count = held_count(front.kind, self.core.rings.held.len);
         let span = payload_span(front, held, head, count, store.len());
         let plan = self.core.plan_take(front, span, count, buffer.len())?;
-        put_payload(buffer, store, front.kind, span, held, head, count);
+        put_payload(buffer, store, front.kind, plan.span, held, head, count);
         self.outbound[at] = plan.slot;
         self.core = plan.core;
         Ok(plan.frame)
