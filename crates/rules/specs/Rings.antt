@@ -1,8 +1,12 @@
 -- Places in a ring, and the ring with a record more.
-use Rattle.std.specs.Prelude.{ℕ, ◌+◌, ◌-◌, ◌%◌, ltb, eqb, Option, Some, None}
+use Rattle.std.specs.Prelude.{ℕ, ◌+◌, ◌-◌, min, ltb, eqb, Option, Some, None}
 use Rattle.laws.specs.Choice.{pick}
 use Rattle.laws.specs.Ring.{slot}
 use Rattle.rules.specs.declared.rings.Ring.{Ring}
+
+-- the slot so many places on from the head; a ring of no slots has none, and 0 stands for it
+abbrev pub slot_of : ℕ → ℕ → ℕ → ℕ
+slot_of n head i = pick (eqb n 0) 0 (slot n head i)
 
 -- the place behind the last record; a full ring has none
 abbrev pub place_behind : (n : ℕ) → Ring n → Option ℕ
@@ -21,6 +25,13 @@ abbrev pub longer_before : (n : ℕ) → Ring n → Ring n
 longer_before n r =
     record { head = pick (ltb r.len n) (slot n r.head (n - 1)) r.head; len = pick (ltb r.len n) (r.len + 1) r.len }
 
--- where the pending ring begins once the entry at a place has left
-abbrev pub head_after : ℕ → ℕ → ℕ
-head_after head place = pick (eqb place 0) ((head % 256 + 1) % 256) head
+-- with the first records gone, so many or all
+abbrev pub without_front : (n : ℕ) → ℕ → Ring n → Ring n
+without_front n k r =
+    let len = min r.len n in
+    record { head = slot_of n r.head (min k len); len = len - min k len }
+
+-- with the record at a place gone: the ring begins one on, if it was the first; else those behind it have moved up
+abbrev pub without_place : (n : ℕ) → ℕ → Ring n → Ring n
+without_place n place r =
+    pick (eqb place 0) (without_front n 1 r) (record { head = r.head; len = min r.len n - 1 })

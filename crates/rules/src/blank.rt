@@ -1,12 +1,13 @@
 // Values that mean nothing: what a slot holds before its first use, and a batch record where a message would stand.
 ghost use Rattle.std.specs.Prelude.{◌≡◌};
 ghost use Rattle.queue.specs.Batch.{no_message};
-ghost use Rattle.rules.specs.Blank.{no_publish};
+ghost use Rattle.rules.specs.Blank.{no_publish, no_entry};
 
-use types::entry::{Publish, Replay};
+use types::entry::{OpSend, Publish, Replay};
 use types::frame::ProducerName;
 use types::memory_limit::MemoryReservation;
 use types::message::{OutgoingMessage, Part};
+use types::types::SequenceId;
 
 pub fn no_message() -> OutgoingMessage
     ensures { result ≡ no_message }
@@ -37,12 +38,19 @@ pub fn no_publish() -> Publish
         enqueued_at: 0,
         reservation: MemoryReservation { bytes: 0 },
         publish_time: 0,
-        producer_name: ProducerName {
-            bytes: [0; 64],
-            len: 0,
-        },
+        producer_name: ProducerName::empty(),
         uuid: [0; 16],
         message: no_message(),
         replay: Replay::Batched,
+    }
+}
+
+pub fn no_entry() -> OpSend
+    ensures { result ≡ no_entry }
+{
+    OpSend {
+        sequence_id: SequenceId(0),
+        answerable: false,
+        publish: no_publish(),
     }
 }

@@ -1,7 +1,6 @@
 // The rings of the state: where they begin, how long they are, and the places in them.
-ghost use Rattle.std.specs.Prelude.{◌≡◌, ◌+◌, ◌<◌, min, ltb};
-ghost use Rattle.laws.specs.Ring.{slot};
-ghost use Rattle.rules.specs.Rings.{place_behind, place_before, longer_behind, longer_before, head_after};
+ghost use Rattle.std.specs.Prelude.{◌≡◌, ◌+◌, min, ltb};
+ghost use Rattle.rules.specs.Rings.{slot_of, place_behind, place_before, longer_behind, longer_before, without_front, without_place};
 
 // A ring of N slots. Any numbers will do: the head is read as `head % N`, the length as `min(len, N)`.
 #[derive(Clone, Copy, PartialEq, Eq)]
@@ -11,14 +10,24 @@ pub struct Ring<const N: usize> {
 }
 
 impl<const N: usize> Ring<N> {
-    // The slot so many places on from the head.
-    pub fn slot(self, i: usize) -> usize
-        requires { i < N }
-        ensures { result ≡ slot N self.entry.head i }
+    // How many records it holds.
+    pub fn count(self) -> usize
+        ensures { result ≡ min self.entry.len N }
     {
+        self.len.min(N)
+    }
+
+    // The slot so many places on from the head, around the ring. A ring of no slots answers 0.
+    pub fn slot(self, i: usize) -> usize
+        ensures { result ≡ slot_of N self.entry.head i }
+    {
+        if N == 0 {
+            return 0;
+        }
         let head = self.head % N;
         let rest = N - head;
-        if i < rest { head + i } else { i - rest }
+        let on = i % N;
+        if on < rest { head + on } else { on - rest }
     }
 
     // The place behind the last record; a full ring has none.
@@ -68,6 +77,31 @@ impl<const N: usize> Ring<N> {
             None => self,
         }
     }
+
+    // With the first records gone, so many or all.
+    pub fn without_front(self, n: usize) -> Self
+        ensures { result ≡ without_front N n self.entry }
+    {
+        let gone = n.min(self.count());
+        Ring {
+            head: self.slot(gone),
+            len: self.count() - gone,
+        }
+    }
+
+    // With the record at a place gone. The ring then begins one on, if it was the first; else those behind it have moved up.
+    pub fn without(self, place: usize) -> Self
+        ensures { result ≡ without_place N place self.entry }
+    {
+        if place == 0 {
+            self.without_front(1)
+        } else {
+            Ring {
+                len: self.count().saturating_sub(1),
+                ..self
+            }
+        }
+    }
 }
 
 #[derive(Clone, Copy, PartialEq, Eq)]
@@ -87,35 +121,9 @@ impl Rings {
     pub const PENDING: usize = 256;
 }
 
-// Where the pending ring begins once the entry at this place has left.
-pub fn head_after(head: usize, place: usize) -> usize
-    ensures { result ≡ head_after head place }
+// 4 and 7: more records than a ring has slots, those that it holds and those to come.
+pub fn too_many<const N: usize>(held: usize, more: usize) -> bool
+    ensures { result ≡ ltb N (held + more) }
 {
-    if place == 0 {
-        (head % 256 + 1) % 256
-    } else {
-        head
-    }
-}
-
-// 4: more than 1,024 frames would wait.
-pub fn too_many(waiting: usize, frames: usize) -> bool
-    ensures { result ≡ ltb 1024 (waiting + frames) }
-{
-    if frames <= Rings::OUTBOUND {
-        Rings::OUTBOUND - frames < waiting
-    } else {
-        true
-    }
-}
-
-// 7: more than 256 entries would be pending.
-pub fn too_many_pending(pending: usize, entries: usize) -> bool
-    ensures { result ≡ ltb 256 (entries + min pending 256) }
-{
-    if entries <= Rings::PENDING {
-        Rings::PENDING - entries < pending.min(Rings::PENDING)
-    } else {
-        true
-    }
+    if more <= N { N - more < held } else { true }
 }

@@ -20,6 +20,17 @@ from_pb pb =
       batch_size = or_minus_one pb.batch_size;
     }
 
+-- the other way, all numbers are there
+abbrev pub with_all : MessageId → MessageIdData
+with_all id =
+    record {
+      ledger_id = id.ledger_id;
+      entry_id = id.entry_id;
+      partition = Some id.partition;
+      batch_index = Some id.batch_index;
+      batch_size = Some id.batch_size;
+    }
+
 -- the id that a receipt answers; one with no message id at all: (0, 0, -1, -1, 0)
 abbrev pub of_receipt : Option MessageIdData → MessageId
 of_receipt None = record { ledger_id = 0; entry_id = 0; partition = negsuc 0; batch_index = negsuc 0; batch_size = pos 0 }

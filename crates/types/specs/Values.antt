@@ -1,9 +1,7 @@
 -- What the values stand for: a part is the store's bytes, and what may be absent is an option, so that absent differs from empty and from false.
-use Rattle.std.specs.Prelude.{ℕ, ◌+◌, Bool, true, List, take, drop, leb, ℤ, None, Option, Some}
+use Rattle.std.specs.Prelude.{ℕ, ◌+◌, Bool, true, List, take, drop, leb, None, Option, Some}
 use Rattle.types.specs.declared.message.Part.{Part}
 use Rattle.types.specs.declared.frame.ProducerName.{ProducerName}
-use Rattle.types.specs.declared.types.MessageId.{MessageId}
-use Rattle.types.specs.declared.txn.TxnId.{TxnId}
 
 -- a part of the store
 abbrev pub part_of : List ℕ → Part → List ℕ

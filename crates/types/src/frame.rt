@@ -1,4 +1,7 @@
 // Frames that wait to be taken.
+ghost use Rattle.std.specs.Prelude.{◌≡◌};
+ghost use Rattle.types.specs.Empty.{empty_name};
+
 use crate::message::OutgoingMessage;
 use crate::txn::TxnId;
 use crate::types::SequenceId;
@@ -8,6 +11,17 @@ use crate::types::SequenceId;
 pub struct ProducerName {
     pub bytes: [u8; 64],
     pub len: usize,
+}
+
+impl ProducerName {
+    pub fn empty() -> ProducerName
+        ensures { result ≡ empty_name }
+    {
+        ProducerName {
+            bytes: [0; 64],
+            len: 0,
+        }
+    }
 }
 
 // What a batch frame has of its own. Its messages are held apart from it.

@@ -15,11 +15,11 @@ pub struct CommandSend {
     pub message_id: Option<MessageId>,
 }
 
-// The message's own name, a part of the store; the producer's where that is empty.
+// The message's own name, a part of the store, where that is not empty; else the producer's.
 #[derive(Clone, Copy, PartialEq, Eq)]
-pub struct FrameName {
-    pub own: Part,
-    pub producer: ProducerName,
+pub enum FrameName {
+    Own(Part),
+    Producer(ProducerName),
 }
 
 #[derive(Clone, Copy, PartialEq, Eq)]

@@ -1,6 +1,6 @@
 // Identifiers.
 ghost use Rattle.std.specs.Prelude.{◌≡◌};
-ghost use Rattle.types.specs.Ids.{from_pb, of_receipt};
+ghost use Rattle.types.specs.Ids.{from_pb, of_receipt, with_all};
 
 // A producer id, which the connection gives out.
 #[derive(Clone, Copy, PartialEq, Eq)]
@@ -28,6 +28,21 @@ pub struct MessageIdData {
     pub partition: Option<i32>,
     pub batch_index: Option<i32>,
     pub batch_size: Option<i32>,
+}
+
+// All numbers are there.
+impl From<MessageId> for MessageIdData {
+    ghost from_gives = { λ id pb. pb ≡ with_all id };
+
+    fn from(id: MessageId) -> MessageIdData {
+        MessageIdData {
+            ledger_id: id.ledger_id,
+            entry_id: id.entry_id,
+            partition: Some(id.partition),
+            batch_index: Some(id.batch_index),
+            batch_size: Some(id.batch_size),
+        }
+    }
 }
 
 impl MessageId {
