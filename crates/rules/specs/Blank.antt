@@ -1,6 +1,7 @@
 -- What a slot of the pending ring holds before its first use.
-use Rattle.std.specs.Prelude.{pos}
+use Rattle.std.specs.Prelude.{pos, false}
 use Rattle.types.specs.Empty.{empty_name}
+use Rattle.types.specs.declared.entry.OpSend.{OpSend}
 use Rattle.types.specs.declared.entry.Publish.{Publish}
 use Rattle.types.specs.declared.entry.Replay.TheVariants.{Batched}
 use Rattle.queue.specs.Batch.{no_message, no_uuid}
@@ -17,3 +18,6 @@ no_publish =
       message = no_message;
       replay = Batched;
     }
+
+abbrev pub no_entry : OpSend
+no_entry = record { sequence_id = record { 0 = 0 }; answerable = false; publish = no_publish }

@@ -31,6 +31,6 @@ abbrev pub cleared : ℕ → ℕ → ℕ → ℕ
 cleared id entry mark = pick (eqb entry id) 0 mark
 
 abbrev pub cleared_all : ℕ → List ℕ → List ℕ → List ℕ
-cleared_all id [] ms = []
+cleared_all id [] ms = ms
 cleared_all id (i ∷ is) [] = []
 cleared_all id (i ∷ is) (m ∷ ms) = cleared id i m ∷ cleared_all id is ms

@@ -26,7 +26,7 @@ impl<'a> Index<'a> {
     fn find(self, id: u64, any: bool) -> Option<usize>
         ensures { result ≡ place_of (wanted id any) (ring 256 (keys self.entry.ids.now self.entry.marks.now) self.entry.ring.head self.entry.ring.len) }
     {
-        for i in 0..self.ring.len.min(256) {
+        for i in 0..self.ring.count() {
             let at = self.ring.slot(i);
             if bears(self.ids[at], self.marks[at], id, any) {
                 return Some(i);
@@ -45,12 +45,11 @@ impl<'a> Index<'a> {
 }
 
 // The id leaves the index: no entry keeps it.
-pub fn unmark(marks: &mut [u8; 256], ids: [u64; 256], id: u64)
-    requires { length marks.old ≡ 256 }
-    ensures { marks.new ≡ cleared_all id ids marks.old }
+pub fn unmark(marks: &mut [u8; 256], ids: &[u64; 256], id: u64)
+    ensures { marks.new ≡ cleared_all id ids.now marks.old }
 {
-    for (i, mark) in marks.iter_mut().enumerate() {
-        if ids[i] == id {
+    for (mark, entry) in marks.iter_mut().zip(ids) {
+        if *entry == id {
             *mark = 0;
         }
     }

@@ -11,10 +11,7 @@ pub fn new_settings() -> ProducerSettings
     ensures { result ≡ new_settings }
 {
     ProducerSettings {
-        name: ProducerName {
-            bytes: [0; 64],
-            len: 0,
-        },
+        name: ProducerName::empty(),
         limits: Limits {
             max_message_size: 5_242_880,
             max_batch_size_bytes: 131_072,
