@@ -5,10 +5,11 @@ use mathlib.Core.List.{List, [], ◌∷◌, ◌++◌}
 use Prim.Native.Nat.{ℕ, zero, suc, ◌+◌, ◌<◌, ◌≤◌}
 use native.Mathlib.Omega.{arith}
 use lib.Dec.{eqb}
-use lib.ListN.{length, get_or, take, drop, set, length-set}
+use lib.ListN.{length, get_or, take, drop, set, drop_of_length-le}
 use lib.Seq.{drop-cons}
 use native.Mathlib.Numerals.{add-one}
 use Rattle.std.proofs.Common.{subst, eq-eqb, ne_eqb}
+use Rattle.std.proofs.lemmas.List.{set-get_or, take-append-drop}
 use Rattle.laws.specs.Choice.{pick}
 use Rattle.laws.proofs.Lists.{stored}
 use Rattle.upkeep.specs.Pending.{keys, cleared, cleared_all}
@@ -25,40 +26,41 @@ keys_at (i ∷ is) [] k b e = absurd (omega arith)
 keys_at (i ∷ is) (m ∷ ms) zero b e = refl
 keys_at (i ∷ is) (m ∷ ms) (suc k) b e = keys_at is ms k (omega arith) (omega arith)
 
-pub length_cleared : (id : ℕ) (is ms : List ℕ) → length is ≡ length ms → length (cleared_all id is ms) ≡ length ms
-length_cleared id [] ms e = e
-length_cleared id (i ∷ is) [] e = refl
-length_cleared id (i ∷ is) (m ∷ ms) e = ap suc (length_cleared id is ms (omega arith))
+pub none_cleared : (id : ℕ) (is : List ℕ) → cleared_all id is [] ≡ []
+none_cleared id [] = refl
+none_cleared id (i ∷ is) = refl
 
 -- the loop that clears: the marks up to i are done, and the rest is to come
-pub record Clearing (id : ℕ) (is ms₀ ms : List ℕ) (i : ℕ) : Type 0 where
-  pub len : length ms ≡ 256
-  pub low : i ≤ 256
-  pub left : take i ms ++ cleared_all id (drop i is) (drop i ms) ≡ cleared_all id is ms₀
+abbrev pub Clearing : ℕ → List ℕ → List ℕ → List ℕ → ℕ → Type 0
+Clearing id is ms₀ ms i = take i ms ++ cleared_all id (drop i is) (drop i ms) ≡ cleared_all id is ms₀
 
-pub clear_step : (id : ℕ) (is ms₀ ms : List ℕ) (i : ℕ) → length is ≡ 256 → i < 256 → Clearing id is ms₀ ms i
-    → Clearing id is ms₀ (set ms i (cleared id (get_or is i 0) (get_or ms i 0))) (i + 1)
-clear_step id is ms₀ ms i e b s =
-    let x : ℕ = cleared id (get_or is i 0) (get_or ms i 0) in
-    let hi : i < length is = omega arith in
-    let hm : i < length ms = omega (arith, s.len) in
-    record {
-      len = simp length-set s.len;
-      low = omega arith;
-      left =
-          stored ms i (i + 1) x (cleared_all id (drop (i + 1) is)) hm (omega arith)
-          ∙ ap (λ (k : ℕ). take i ms ++ x ∷ cleared_all id (drop k is) (drop k ms)) (add-one i)
-          ∙ sym (λ j. take i ms ++ cleared_all id (drop-cons is i 0 hi j) (drop-cons ms i 0 hm j))
-          ∙ s.left;
-    }
+module _ (id : ℕ) (is ms₀ ms : List ℕ) (i : ℕ) (b : i < length is) (s : Clearing id is ms₀ ms i) where
+  e : ℕ
+  e = get_or is i 0
 
--- a mark that is cleared, and one that stays
-pub clear_hit : (id : ℕ) (is ms₀ ms : List ℕ) (i : ℕ) → length is ≡ 256 → i < 256 → get_or is i 0 ≡ id → Clearing id is ms₀ ms i
-    → Clearing id is ms₀ (set ms i 0) (i + 1)
-clear_hit id is ms₀ ms i e b h s =
-    subst (λ (t : Bool). Clearing id is ms₀ (set ms i (pick t 0 (get_or ms i 0))) (i + 1)) (eq-eqb (get_or is i 0) id h) (clear_step id is ms₀ ms i e b s)
+  m : ℕ
+  m = get_or ms i 0
 
-pub clear_miss : (id : ℕ) (is ms₀ ms : List ℕ) (i : ℕ) → length is ≡ 256 → i < 256 → (get_or is i 0 ≡ id → ⊥) → Clearing id is ms₀ ms i
-    → Clearing id is ms₀ (set ms i (get_or ms i 0)) (i + 1)
-clear_miss id is ms₀ ms i e b h s =
-    subst (λ (t : Bool). Clearing id is ms₀ (set ms i (pick t 0 (get_or ms i 0))) (i + 1)) (ne_eqb (get_or is i 0) id h) (clear_step id is ms₀ ms i e b s)
+  step : i < length ms → Clearing id is ms₀ (set ms i (cleared id e m)) (i + 1)
+  unfolding e m
+  step h =
+      let x : ℕ = cleared id (get_or is i 0) (get_or ms i 0) in
+      stored ms i (i + 1) x (cleared_all id (drop (i + 1) is)) h (omega arith)
+      ∙ ap (λ (k : ℕ). take i ms ++ x ∷ cleared_all id (drop k is) (drop k ms)) (add-one i)
+      ∙ sym (λ j. take i ms ++ cleared_all id (drop-cons is i 0 b j) (drop-cons ms i 0 h j))
+      ∙ s
+
+  -- a mark that is cleared, and one that stays
+  pub clear_hit : i < length ms → get_or is i 0 ≡ id → Clearing id is ms₀ (set ms i 0) (i + 1)
+  unfolding e m
+  clear_hit h q = subst (λ (t : Bool). Clearing id is ms₀ (set ms i (pick t 0 (get_or ms i 0))) (i + 1)) (eq-eqb (get_or is i 0) id q) (step h)
+
+  pub clear_miss : i < length ms → (get_or is i 0 ≡ id → ⊥) → Clearing id is ms₀ ms (i + 1)
+  unfolding e m
+  clear_miss h q =
+      subst (λ (l : List ℕ). Clearing id is ms₀ l (i + 1)) (set-get_or ms i 0)
+      (subst (λ (t : Bool). Clearing id is ms₀ (set ms i (pick t 0 (get_or ms i 0))) (i + 1)) (ne_eqb (get_or is i 0) id q) (step h))
+
+pub cleared_end : (id : ℕ) (is ms₀ ms : List ℕ) (i : ℕ) → length is ≤ i → Clearing id is ms₀ ms i → ms ≡ cleared_all id is ms₀
+cleared_end id is ms₀ ms i b s =
+    sym (ap (λ (r : List ℕ). take i ms ++ cleared_all id r (drop i ms)) (drop_of_length-le is b) ∙ take-append-drop i ms) ∙ s

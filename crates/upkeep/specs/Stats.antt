@@ -1,12 +1,10 @@
 -- Counters and ids on plain values. These mirror the code: what a reader must believe is in crate `queue`.
-use Rattle.std.specs.Prelude.{ℕ, min, ltb, ℤ, Err, Ok, Result}
+use Rattle.std.specs.Prelude.{ℕ, min, ltb, ℤ}
 use Rattle.laws.specs.Choice.{pick}
 use Rattle.types.specs.Ids.{before_next}
 use Rattle.types.specs.declared.stats.Counters.{Counters}
 use Rattle.types.specs.declared.stats.ProducerStats.{ProducerStats}
 use Rattle.types.specs.declared.stats.SequenceIds.{SequenceIds}
-use Rattle.queue.specs.Ids.{published}
-use Rattle.types.specs.declared.error.ProducerError.{ProducerError}
 
 abbrev pub stats_of : Counters → ℕ → ProducerStats
 stats_of counters pending = record { counters = counters; pending_queue_size = min pending 256 }

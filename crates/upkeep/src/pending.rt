@@ -48,9 +48,9 @@ impl<'a> Index<'a> {
 pub fn unmark(marks: &mut [u8; 256], ids: &[u64; 256], id: u64)
     ensures { marks.new ≡ cleared_all id ids.now marks.old }
 {
-    for (mark, entry) in marks.iter_mut().zip(ids) {
+    for (i, entry) in ids.iter().enumerate() {
         if *entry == id {
-            *mark = 0;
+            marks[i] = 0;
         }
     }
 }

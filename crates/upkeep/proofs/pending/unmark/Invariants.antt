@@ -1,6 +1,8 @@
 -- `upkeep::pending::unmark`: the marks before the place are cleared, and the rest is to come.
+use mathlib.Core.Path.{◌≡◌}
+use lib.ListN.{length}
 use Rattle.upkeep.proofs.Keys.{Clearing}
 use Rattle.upkeep.proofs.pending.unmark.Given as goal
 
 abbrev pub invariant-loop-i : goal.invariant-loop-i
-invariant-loop-i l = Clearing l.id l.ids l.initial.marks l.marks l.i
+invariant-loop-i l = (length l.marks ≡ 256) × Clearing l.id l.ids l.initial.marks l.marks l.i
