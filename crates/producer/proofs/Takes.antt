@@ -64,11 +64,6 @@ count_is Single n = omega arith
 count_is (Batch b) n = refl
 count_is (Chunked c) n = omega arith
 
-pub count_small : (k : FrameKind) (n : ℕ) → held_count k n ≤ 512
-count_small Single n = omega arith
-count_small (Batch b) n = omega arith
-count_small (Chunked c) n = omega arith
-
 -- a buffer is shorter than a length that stopped, where it is shorter than the length
 stopped_test : (room x : ℕ) → room < 2 ^ 63 → ltb room (stopped x) ≡ ltb room x
 stopped_test room x b = go (dec_lt room x)
