@@ -1,8 +1,8 @@
 -- `ProducerState::take_front`: what is answered, written and stored is what the plan says.
-use Rattle.std.proofs.Common.{ℕ, ◌^◌, ◌<◌, ◌≤◌, length, sym, subst, arith}
+use Rattle.std.proofs.Common.{◌^◌, ◌<◌, length, arith}
 use Rattle.std.proofs.lemmas.Result.{err_from_is_err_and}
 use Rattle.producer.proofs.Full.{Full}
-use Rattle.producer.proofs.Takes.{front_of, takes_writable, takes_done, takes_refused}
+use Rattle.producer.proofs.Takes.{takes_writable, takes_done, takes_refused}
 use Rattle.producer.proofs.state.ProducerState.take_front.Goals as goal
 
 pub put_payload-requires : goal.put_payload-requires
