@@ -1,5 +1,5 @@
 -- The loops over the messages of a batch frame, which are the first of the held ring: their parts and lengths, and their items. Assumes nothing.
-use Prim.Native.Nat.{ℕ, ◌+◌, ◌<◌, ◌≤◌, ◌^◌}
+use Prim.Native.Nat.{ℕ, ◌+◌, ◌<◌, ◌≤◌, ◌^◌, min}
 use mathlib.Core.Bool.{Bool, true, false, ◌&&◌}
 use mathlib.Core.List.{List, [], ◌∷◌, ◌++◌}
 use mathlib.Core.Path.{◌≡◌, refl, ap, sym, subst, ◌∙◌}
@@ -96,15 +96,15 @@ pub all_in_lem : (n : ℕ) (ms : List SingleMessage) → all_in n ms ≡ true �
 all_in_lem n [] e = tt
 all_in_lem n (m ∷ ms) e = (single_in_lem n m (and_left (single_in n m) (all_in n ms) e), all_in_lem n ms (and_right (single_in n m) (all_in n ms) e))
 
-module _ (held : List SingleMessage) (full : length held ≡ 512) (h k : ℕ) (le : k ≤ 512) where
-  pub held_length : length (ring 512 held h k) ≡ k
-  held_length = length_ring 512 (lit< tt) held full h k ∙ omega arith
+module _ (held : List SingleMessage) (full : length held ≡ 512) (h k : ℕ) where
+  pub held_length : length (ring 512 held h k) ≡ min k 512
+  held_length = length_ring 512 (lit< tt) held full h k
 
   -- the messages as a loop reads them, each at its slot
-  pub held_at : (i at : ℕ) (d : SingleMessage) → at ≡ slot 512 h i → i < k → get_or (ring 512 held h k) i d ≡ get_or held at d
-  held_at i at d q b = ring_at 512 (lit< tt) held full d h k i (omega arith) ∙ ap (λ (j : ℕ). get_or held j d) (sym q)
+  pub held_at : (i at : ℕ) (d : SingleMessage) → at ≡ slot 512 h i → i < min k 512 → get_or (ring 512 held h k) i d ≡ get_or held at d
+  held_at i at d q b = ring_at 512 (lit< tt) held full d h k i b ∙ ap (λ (j : ℕ). get_or held j d) (sym q)
 
-  module _ (store : List ℕ) (i at : ℕ) (d : SingleMessage) (q : at ≡ slot 512 h i) (b : i < k) where
+  module _ (store : List ℕ) (i at : ℕ) (d : SingleMessage) (q : at ≡ slot 512 h i) (b : i < min k 512) where
     pub held_in_lem : all_in (length store) (ring 512 held h k) ≡ true → InStore (length store) (get_or held at d)
     held_in_lem e =
         subst (InStore (length store)) (held_at i at d q b)

@@ -1,5 +1,5 @@
 -- The front frame as it goes out. These mirror the code: what a reader must believe is in crate `queue`.
-use Rattle.std.specs.Prelude.{ℕ, ◌^◌, Bool, true, List, ltb, None, Option, Some}
+use Rattle.std.specs.Prelude.{ℕ, ◌^◌, Bool, true, List, ltb, eqb, None, Option, Some}
 use Rattle.laws.specs.Choice.{pick}
 use Rattle.wire.specs.Uuid.{uuid_text}
 use Rattle.queue.specs.Batch.{at_least_one}
@@ -8,8 +8,16 @@ use Rattle.types.specs.declared.frame.ChunkedMessageContext.{ChunkedMessageConte
 use Rattle.types.specs.declared.frame.FrameRecord.{FrameRecord}
 use Rattle.types.specs.declared.frame.FrameKind.{FrameKind}
 use Rattle.types.specs.declared.frame.FrameKind.TheVariants.{Single, Batch, Chunked}
+use Rattle.types.specs.declared.frame.ProducerName.{ProducerName}
+use Rattle.types.specs.declared.message.Part.{Part}
+use Rattle.types.specs.declared.outbound.FrameName.{FrameName}
+use Rattle.types.specs.declared.outbound.FrameName.TheVariants.{Own, Producer}
 use Rattle.types.specs.declared.types.ProducerHandle.{ProducerHandle}
 use Rattle.types.specs.declared.outbound.OutboundFrame.{OutboundFrame}
+
+-- the message's own name, and the producer's when that is empty
+abbrev pub name_out : Part → ProducerName → FrameName
+name_out own producer = pick (eqb own.len 0) (Producer producer) (Own own)
 
 abbrev pub present_if : Bool → ℕ → Option ℕ
 present_if there n = pick there (Some n) None
@@ -28,7 +36,7 @@ message_out handle r num_messages is_chunk size chunk_id num_chunks totalSize uu
         message_id = m.source_message_id;
       };
       metadata = record {
-        producer_name = record { own = m.producer_name; producer = r.producer_name };
+        producer_name = name_out m.producer_name r.producer_name;
         sequence_id = r.sequence_id;
         publish_time = r.publish_time;
         partition_key = m.partition_key;
@@ -74,7 +82,7 @@ batch_frame_out handle r b highest size len =
         message_id = None;
       };
       metadata = record {
-        producer_name = record { own = record { start = 0; len = 0 }; producer = r.producer_name };
+        producer_name = Producer r.producer_name;
         sequence_id = r.sequence_id;
         publish_time = r.publish_time;
         partition_key = None;

@@ -3,6 +3,7 @@
 
 pub mod after;
 pub mod answer;
+pub mod held;
 pub mod inside;
 pub mod outbound;
 pub mod payload;

@@ -1,10 +1,10 @@
 // Where the payload of the front frame lies (document 01, 'sends').
-ghost use Rattle.std.specs.Prelude.{◌≡◌, ◌≤◌};
+ghost use Rattle.std.specs.Prelude.{◌≡◌};
 ghost use Rattle.laws.specs.Ring.{ring};
-ghost use Rattle.frames.specs.Span.{skip_of, piece_len, message_span, empty_span, with_item, batch_span, is_batch, held_count, span_of};
+ghost use Rattle.frames.specs.Span.{skip_of, piece_len, message_span, empty_span, with_item, is_batch, held_count, span_of};
 
+use crate::held::Held;
 use crate::inside::{message_inside, piece_inside, single_inside};
-use rules::rings::Ring;
 use types::frame::{FrameKind, FrameRecord};
 use types::message::SingleMessage;
 use wire::batch::item_len;
@@ -83,31 +83,11 @@ pub fn with_item(span: Span, m: SingleMessage, n: usize) -> Option<Span>
     })
 }
 
-// Of the first `count` of the held messages.
-pub fn batch_span(held: [SingleMessage; 512], head: usize, count: usize, n: usize) -> Option<Span>
-    requires { count ≤ 512 }
-    ensures { result ≡ batch_span n (ring 512 held head count) }
-{
-    let ring = Ring::<512> { head, len: count };
-    let mut span = empty_span();
-    for i in 0..count {
-        span = with_item(span, held[ring.slot(i)], n)?;
-    }
-    Some(span)
-}
-
-pub fn payload_span(
-    front: FrameRecord,
-    held: [SingleMessage; 512],
-    head: usize,
-    count: usize,
-    n: usize,
-) -> Option<Span>
-    requires { count ≤ 512 }
-    ensures { result ≡ span_of n front front.kind (ring 512 held head count) }
+pub fn payload_span(front: FrameRecord, held: Held, n: usize) -> Option<Span>
+    ensures { result ≡ span_of n front front.kind (ring 512 held.entry.messages.now held.entry.ring.head held.entry.ring.len) }
 {
     if is_batch(front.kind) {
-        batch_span(held, head, count, n)
+        held.span(n)
     } else {
         message_span(front, n)
     }

@@ -5,7 +5,7 @@ ghost use Rattle.plans.specs.Take.{core_taken, take_planned};
 use crate::state::Core;
 use frames::after::{record_after, stays};
 use frames::answer::answer_of;
-use frames::outbound::frame_of;
+use frames::outbound::FrontFrame;
 use frames::span::Span;
 use rules::rings::{Ring, Rings};
 use types::error::ProducerError;
@@ -60,11 +60,16 @@ impl Core {
         ensures { result ≡ take_planned self front span count room }
     {
         let span = answer_of(self.rings.outbound.len, span, room)?;
+        let frame = FrontFrame {
+            handle: self.handle,
+            front,
+            payload_len: span.len,
+        };
         Ok(TakePlan {
             span,
             core: self.taken(stays(front.kind), count),
             slot: record_after(front),
-            frame: frame_of(self.handle, front, span.len),
+            frame: frame.frame(),
         })
     }
 }

@@ -15,17 +15,19 @@ use Rattle.types.specs.declared.frame.FrameRecord.{FrameRecord}
 use Rattle.types.specs.declared.frame.FrameKind.{FrameKind}
 use Rattle.types.specs.declared.frame.FrameKind.TheVariants.{Single, Batch, Chunked}
 use Rattle.types.specs.declared.message.SingleMessage.{SingleMessage}
+use Rattle.types.specs.declared.frame.ProducerName.{ProducerName}
+use Rattle.types.specs.declared.message.Part.{Part}
+use Rattle.types.specs.declared.outbound.FrameName.TheVariants.{Own, Producer}
 use Rattle.types.specs.declared.outbound.OutboundFrame.{OutboundFrame}
+use Rattle.types.specs.Values.{part_of, name_of}
 use Rattle.wire.specs.Batch.{batch_payload}
 use Rattle.wire.specs.Buffer.{Room, Puts}
 use Rattle.wire.specs.Length.{stopped, batch_length}
 use Rattle.wire.proofs.Lengths.{batch_length_lem}
 use Rattle.queue.specs.Queue.{Queue, Answer, refuse, with_out, done}
-use Rattle.queue.specs.Frame.{Frame, message_frame, first_frame, frame_in, all_in}
+use Rattle.queue.specs.Frame.{Frame, first_frame, frame_in, all_in}
 use Rattle.queue.specs.Take.{with_kind, next_chunk, rest_of, holds, taken, take_from, next_outbound_frame, written}
 use Rattle.queue.specs.Told.{Kept}
-use Rattle.queue.specs.Batch.{at_least_one}
-use Rattle.wire.specs.Uuid.{uuid_text}
 use Rattle.frames.specs.Span.{borne, span_of, is_batch, held_count}
 use Rattle.frames.specs.Payload.{payload_of, Writable}
 use Rattle.frames.specs.Answer.{fitting, answer_of}
@@ -38,7 +40,7 @@ use Rattle.plans.specs.declared.take.TakePlan.{TakePlan}
 use Rattle.frames.proofs.Batches.{all_in_lem}
 use Rattle.frames.proofs.Pieces.{some_picked, is_there, there_if, piece_of}
 use Rattle.producer.specs.View.{view}
-use Rattle.producer.specs.Take.{frame_told, told_frame}
+use Rattle.producer.specs.Take.{name_told, frame_told, told_frame}
 use Rattle.producer.specs.declared.state.ProducerState.{ProducerState}
 use Rattle.producer.proofs.Full.{Full}
 use Rattle.types.specs.declared.error.ProducerError.{ProducerError}
@@ -63,11 +65,6 @@ count_is : (k : FrameKind) (n : ℕ) → held_count k n ≡ min (holds k) (min n
 count_is Single n = omega arith
 count_is (Batch b) n = refl
 count_is (Chunked c) n = omega arith
-
-pub count_small : (k : FrameKind) (n : ℕ) → held_count k n ≤ 512
-count_small Single n = omega arith
-count_small (Batch b) n = omega arith
-count_small (Chunked c) n = omega arith
 
 -- a buffer is shorter than a length that stopped, where it is shorter than the length
 stopped_test : (room x : ℕ) → room < 2 ^ 63 → ltb room (stopped x) ≡ ltb room x
@@ -102,6 +99,12 @@ ok_planned c r count (Err x) p e = differ (cc)
 err_planned : (c : Core) (r : FrameRecord) (count : ℕ) (o : Result Span ProducerError) (f : ProducerError) → plan_with c r count o ≡ Err f → o ≡ Err f
 err_planned c r count (Ok x) f e = differ (cc)
 err_planned c r count (Err x) f e = let same : x ≡ f = cc in ap Err same
+
+-- what a frame's name says
+name_if : (store : List ℕ) (b : Bool) (own : Part) (producer : ProducerName)
+    → name_told store (pick b (Producer producer) (Own own)) ≡ pick b (name_of producer) (part_of store own)
+name_if store true own producer = refl
+name_if store false own producer = refl
 
 num_if : (b : Bool) (n : ℕ) → (present_if b n) ≡ pick b (Some n) None
 num_if true n = refl
@@ -283,15 +286,9 @@ module _ (s : ProducerState) (f : Full s) (d : FrameRecord) where
           })
 
     frame_is : (after : List ℕ) (len : ℕ) (k : FrameKind) → take len after ≡ (frame_for k).payload → frame_told store after (frame_out s.core.handle r k len) ≡ frame_for k
-    frame_is after len Single e =
-        let m = r.message in
-        λ j. message_frame store s.core.handle r (at_least_one m.num_messages) None (num_if (ltb 0 m.uncompressed_size) m.uncompressed_size j) None None None None (e j)
+    frame_is after len Single e = simp (name_if, num_if, e)
     frame_is after len (Batch b) e = simp (num_if, e)
-    frame_is after len (Chunked c) e =
-        let m = r.message in
-        λ j.
-        message_frame store s.core.handle r 1 (Some true) (Some m.uncompressed_size) (Some c.next_chunk) (Some c.total_chunks)
-        (Some m.payload.len) (Some (uuid_text r.uuid)) (e j)
+    frame_is after len (Chunked c) e = simp (name_if, e)
 
   -- ── the answer ──
 

@@ -1,19 +1,20 @@
 -- What the answer of a take says: its parts are the store's bytes, and its payload is the start of the buffer after the call.
-use Rattle.std.specs.Prelude.{ℕ, List, take, ◌==◌, Err, Ok, Option, Result}
-use Rattle.laws.specs.Choice.{pick}
+use Rattle.std.specs.Prelude.{ℕ, List, take, Err, Ok, Result}
 use Rattle.types.specs.Values.{part_of, bytes_of, name_of}
 use Rattle.types.specs.declared.outbound.CommandSend.{CommandSend}
 use Rattle.types.specs.declared.outbound.MessageMetadata.{MessageMetadata}
 use Rattle.types.specs.declared.outbound.FrameName.{FrameName}
+use Rattle.types.specs.declared.outbound.FrameName.TheVariants.{Own, Producer}
 use Rattle.types.specs.declared.outbound.OutboundFrame.{OutboundFrame}
 use Rattle.queue.specs.Queue.{Answer, done}
 use Rattle.types.specs.declared.error.ProducerError.{ProducerError}
 use Rattle.queue.specs.Frame.{Command, Metadata, Frame}
 use Rattle.queue.specs.Told.{told_error}
 
--- the message's own name where it is not empty, else the producer's
+-- the own name of a message, or its producer's
 abbrev pub name_told : List ℕ → FrameName → List ℕ
-name_told store n = pick (n.own.len == 0) (name_of n.producer) (part_of store n.own)
+name_told store (Own p) = part_of store p
+name_told store (Producer n) = name_of n
 
 abbrev pub command_told : CommandSend → Command
 command_told c =

@@ -7,14 +7,16 @@ ghost use Rattle.producer.specs.View.{view};
 
 use crate::answer::Answered;
 use crate::state::ProducerState;
+use frames::held::Held;
 use frames::payload::put_payload;
 use frames::span::{held_count, payload_span};
-use rules::rings::Rings;
+use rules::rings::{Ring, Rings};
 use types::error::ProducerError;
 use types::outbound::OutboundFrame;
 
 impl ProducerState {
-    fn take_front(
+    // Hands out the front frame, with its payload at the start of `buffer`, and moves the state in place.
+    pub fn take_front(
         &mut self,
         store: &[u8],
         buffer: &mut [u8],
@@ -23,20 +25,26 @@ impl ProducerState {
         ensures buffer_after { buffer.new ≡ written (told_frame store.now buffer.new result) buffer.old }
         ensures kept { Kept (told_frame store.now buffer.new result) self.old self.new }
     {
-        let at = self.core.rings.outbound.head % Rings::OUTBOUND;
+        let rings = self.core.rings;
+        let at = rings.outbound.head % Rings::OUTBOUND;
         let front = self.outbound[at];
-        let held = self.held;
-        let head = self.core.rings.held.head;
-        let count = held_count(front.kind, self.core.rings.held.len);
-        let span = payload_span(front, held, head, count, store.len());
+        let count = held_count(front.kind, rings.held.len);
+        let held = Held {
+            messages: &self.held,
+            ring: Ring {
+                len: count,
+                ..rings.held
+            },
+        };
+        let span = payload_span(front, held, store.len());
         let plan = self.core.plan_take(front, span, count, buffer.len())?;
-        put_payload(buffer, store, front.kind, plan.span, held, head, count);
+        put_payload(buffer, store, front.kind, plan.span, held);
         self.outbound[at] = plan.slot;
         self.core = plan.core;
         Ok(plan.frame)
     }
 
-    // Hands out the front frame, with its payload at the start of `buffer`.
+    // The same for a state by value.
     pub fn next_outbound_frame(mut self, store: &[u8], buffer: &mut [u8]) -> Answered<OutboundFrame>
         ensures result_after { (view result.state, told_frame store.now buffer.new result.answer) ≡ next_outbound_frame store.now (length buffer.old) (view self) }
         ensures buffer_after { buffer.new ≡ written (told_frame store.now buffer.new result.answer) buffer.old }

@@ -1,8 +1,8 @@
 -- `ProducerState::take_front`: what is answered, written and stored is what the plan says.
-use Rattle.std.proofs.Common.{ℕ, ◌^◌, ◌<◌, ◌≤◌, length, sym, subst, arith}
+use Rattle.std.proofs.Common.{◌^◌, ◌<◌, length, arith}
 use Rattle.std.proofs.lemmas.Result.{err_from_is_err_and}
 use Rattle.producer.proofs.Full.{Full}
-use Rattle.producer.proofs.Takes.{front_of, count_small, takes_writable, takes_done, takes_refused}
+use Rattle.producer.proofs.Takes.{takes_writable, takes_done, takes_refused}
 use Rattle.producer.proofs.state.ProducerState.take_front.Goals as goal
 
 pub put_payload-requires : goal.put_payload-requires
@@ -14,11 +14,9 @@ put_payload-requires c =
     let small : length store < 2 ^ 63 = omega arith in
     let short : length before < 2 ^ 63 = omega arith in
     let count = c.held_count-count in
-    let got = c.payload_span-span in (
-      subst (λ (k : ℕ). k ≤ 512) (sym count.ensures) (count_small (front_of s f _).kind s.core.rings.held.len),
-      takes_writable s f _ store before small short got.result count.result count.ensures got.ensures c.plan_take.result c.plan_take.ensures
-          c.in_ok-plan.plan c.in_ok-plan.was,
-    )
+    let got = c.payload_span-span in
+    takes_writable s f _ store before small short got.result count.result count.ensures got.ensures c.plan_take.result c.plan_take.ensures
+    c.in_ok-plan.plan c.in_ok-plan.was
 
 pub returns : goal.returns
 returns c =

@@ -1,0 +1,45 @@
+// The held messages of the batch frames (document 01, 'sends').
+ghost use Rattle.std.specs.Prelude.{◌≡◌, true, length};
+ghost use Rattle.laws.specs.Ring.{ring};
+ghost use Rattle.wire.specs.Batch.{batch_payload};
+ghost use Rattle.wire.specs.Buffer.{Room, Puts};
+ghost use Rattle.queue.specs.Frame.{all_in};
+ghost use Rattle.frames.specs.Span.{batch_span};
+
+use crate::span::{Span, empty_span, with_item};
+use rules::rings::Ring;
+use types::message::SingleMessage;
+use wire::batch::put_item;
+
+// The messages of one batch frame, which are the first of the held ring.
+#[derive(Clone, Copy)]
+pub struct Held<'a> {
+    pub messages: &'a [SingleMessage; 512],
+    pub ring: Ring<512>,
+    ghost full: { length messages.now ≡ 512 },
+}
+
+impl<'a> Held<'a> {
+    // The payload that their items make.
+    pub fn span(self, n: usize) -> Option<Span>
+        ensures { result ≡ batch_span n (ring 512 self.entry.messages.now self.entry.ring.head self.entry.ring.len) }
+    {
+        let mut span = empty_span();
+        for i in 0..self.ring.len.min(512) {
+            span = with_item(span, self.messages[self.ring.slot(i)], n)?;
+        }
+        Some(span)
+    }
+
+    // Writes their items to the start of `out`.
+    pub fn put(self, out: &mut [u8], store: &[u8]) -> usize
+        requires { (all_in (length store.now) (ring 512 self.messages.now self.ring.head self.ring.len) ≡ true) × Room (batch_payload store.now (ring 512 self.messages.now self.ring.head self.ring.len)) 0 out.old }
+        ensures { Puts (batch_payload store.now (ring 512 self.entry.messages.now self.entry.ring.head self.entry.ring.len)) 0 out.old out.new result }
+    {
+        let mut to = 0;
+        for i in 0..self.ring.len.min(512) {
+            to = put_item(out, to, store, self.messages[self.ring.slot(i)]);
+        }
+        to
+    }
+}
