@@ -1,5 +1,5 @@
 -- What the plans of the replays answer. These mirror the code.
-use Rattle.std.specs.Prelude.{ℕ, ◌+◌, min, Bool, true, not, nat_lt, Err, None, Ok, Result}
+use Rattle.std.specs.Prelude.{ℕ, ◌+◌, min, Bool, true, not, nat_lt, Err, None, Ok, Option, Result, Some}
 use Rattle.laws.specs.Choice.{pick}
 use Rattle.laws.specs.Numbers.{add_sat}
 use Rattle.types.specs.declared.entry.OpSend.{OpSend}
@@ -12,14 +12,15 @@ use Rattle.plans.specs.Delta.{put_at}
 use Rattle.types.specs.declared.error.ProducerError.{ProducerError}
 
 -- a record of n frames before the first, or none
-abbrev pub fronted_core : Bool → FrameRecord → ℕ → Core → Pushed FrameRecord
-fronted_core asked frame n c =
+abbrev pub fronted_core : Option FrameRecord → ℕ → Core → Pushed FrameRecord
+fronted_core None n c =
+    let r = c.rings in
+    record { core = record c { rings = record r { waiting = add_sat n r.waiting } }; put = None }
+fronted_core (Some frame) n c =
     let r = c.rings in
     record {
-      core = record c {
-        rings = record r { outbound = pick asked (longer_before 1024 r.outbound) r.outbound; waiting = add_sat n r.waiting };
-      };
-      put = pick asked (put_at (place_before 1024 r.outbound) frame) None;
+      core = record c { rings = record r { outbound = longer_before 1024 r.outbound; waiting = add_sat n r.waiting } };
+      put = put_at (place_before 1024 r.outbound) frame;
     }
 
 -- an entry before the first, answerable

@@ -1,8 +1,9 @@
 -- What the plan of a take answers. These mirror the code: what a reader must believe is in crate `queue`.
-use Rattle.std.specs.Prelude.{ℕ, ◌+◌, ◌-◌, ◌%◌, min, Bool, Err, Ok, Option, Result}
+use Rattle.std.specs.Prelude.{ℕ, ◌-◌, Bool, Err, Ok, Option, Result}
 use Rattle.laws.specs.Choice.{pick}
 use Rattle.types.specs.declared.frame.FrameRecord.{FrameRecord}
 use Rattle.rules.specs.declared.rings.Rings.{Rings}
+use Rattle.rules.specs.Rings.{without_front}
 use Rattle.frames.specs.declared.span.Span.{Span}
 use Rattle.frames.specs.Answer.{answer_of}
 use Rattle.frames.specs.Outbound.{frame_out}
@@ -12,24 +13,13 @@ use Rattle.plans.specs.declared.take.TakePlan.{TakePlan}
 use Rattle.plans.specs.State.{core_rings}
 use Rattle.types.specs.declared.error.ProducerError.{ProducerError}
 
-abbrev pub out_rings : ℕ → ℕ → ℕ → ℕ → ℕ → Rings → Rings
-out_rings head len waiting heldHead heldLen r =
-    record {
-      outbound = record { head = head; len = len };
-      waiting = waiting;
-      held = record { head = heldHead; len = heldLen };
-      pending = r.pending;
-    }
-
 abbrev pub rings_taken : Bool → ℕ → Rings → Rings
 rings_taken stays count r =
-    out_rings
-    (pick stays r.outbound.head ((r.outbound.head % 1024 + 1) % 1024))
-    (pick stays r.outbound.len (min r.outbound.len 1024 - 1))
-    (r.waiting - 1)
-    ((r.held.head % 512 + min count 512) % 512)
-    (min r.held.len 512 - count)
-    r
+    record r {
+      outbound = pick stays r.outbound (without_front 1024 1 r.outbound);
+      waiting = r.waiting - 1;
+      held = without_front 512 count r.held;
+    }
 
 abbrev pub core_taken : Bool → ℕ → Core → Core
 core_taken stays count c = core_rings (rings_taken stays count c.rings) c

@@ -7,7 +7,7 @@ use crate::delta::{FlushDelta, Pushed};
 use crate::state::Core;
 use rules::batch::{can_add, is_batchable, makes_frame};
 use rules::blank::no_message;
-use rules::rings::too_many;
+use rules::rings::{Rings, too_many};
 use types::batch::BatchContainer;
 use types::error::ProducerError;
 use types::frame::{BatchFrame, FrameKind, FrameRecord};
@@ -96,7 +96,7 @@ impl Core {
     {
         if (self.batch.len == 0) | self.settings.switches.closed {
             Ok(0)
-        } else if too_many(self.rings.waiting, 1) {
+        } else if too_many::<{ Rings::OUTBOUND }>(self.rings.waiting, 1) {
             Err(ProducerError::OutboundFull)
         } else {
             Ok(1)

@@ -4,7 +4,7 @@ ghost use Rattle.plans.specs.Choose.{chosen_within, chosen};
 
 use crate::state::Core;
 use rules::bounds::{message_in, within_bounds};
-use rules::rings::too_many;
+use rules::rings::{Rings, too_many};
 use rules::way::{frames_pushed, held_full, pending_full};
 use types::error::ProducerError;
 use types::memory_limit::MemoryReservation;
@@ -18,7 +18,7 @@ impl Core {
         ensures { result ≡ chosen_within m self }
     {
         let w = self.way(m);
-        if too_many(self.rings.waiting, frames_pushed(w)) {
+        if too_many::<{ Rings::OUTBOUND }>(self.rings.waiting, frames_pushed(w)) {
             Err(ProducerError::OutboundFull)
         } else if held_full(w, self.rings.held.len) {
             Err(ProducerError::HeldFull)

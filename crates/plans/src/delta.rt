@@ -50,10 +50,7 @@ pub struct FlushDelta {
 pub(crate) fn put_at<T: Copy>(place: Option<usize>, value: T) -> Option<Put<T>>
     ensures { result ≡ put_at place value }
 {
-    match place {
-        Some(at) => Some(Put { at, value }),
-        None => None,
-    }
+    place.map(|at| Put { at, value })
 }
 
 impl Core {

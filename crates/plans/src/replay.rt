@@ -4,36 +4,39 @@ ghost use Rattle.plans.specs.Replay.{fronted_core, fronted_entry, replay_count, 
 
 use crate::delta::{Pushed, put_at};
 use crate::state::Core;
-use rules::rings::{Rings, too_many, too_many_pending};
+use rules::rings::{Rings, too_many};
 use types::entry::OpSend;
 use types::error::ProducerError;
 use types::frame::FrameRecord;
 
 impl Core {
     // A record of so many frames in front of those that wait; of a batched entry there is none.
-    pub fn front(self, asked: bool, frame: FrameRecord, frames: usize) -> Pushed<FrameRecord>
-        ensures { result ≡ fronted_core asked frame frames self }
+    pub fn front(self, frame: Option<FrameRecord>, frames: usize) -> Pushed<FrameRecord>
+        ensures { result ≡ fronted_core frame frames self }
     {
         let outbound = self.rings.outbound;
         let waiting = frames.saturating_add(self.rings.waiting);
-        if asked {
-            let rings = Rings {
-                outbound: outbound.longer_before(),
-                waiting,
-                ..self.rings
-            };
-            Pushed {
-                core: Core { rings, ..self },
-                put: put_at(outbound.place_before(), frame),
+        match frame {
+            Some(frame) => {
+                let rings = Rings {
+                    outbound: outbound.longer_before(),
+                    waiting,
+                    ..self.rings
+                };
+                Pushed {
+                    core: Core { rings, ..self },
+                    put: put_at(outbound.place_before(), frame),
+                }
             }
-        } else {
-            let rings = Rings {
-                waiting,
-                ..self.rings
-            };
-            Pushed {
-                core: Core { rings, ..self },
-                put: None,
+            None => {
+                let rings = Rings {
+                    waiting,
+                    ..self.rings
+                };
+                Pushed {
+                    core: Core { rings, ..self },
+                    put: None,
+                }
             }
         }
     }
@@ -61,7 +64,7 @@ impl Core {
     pub fn replay_count(self, frames: usize) -> Result<usize, ProducerError>
         ensures { result ≡ replay_count frames self }
     {
-        if too_many(self.rings.waiting, frames) {
+        if too_many::<{ Rings::OUTBOUND }>(self.rings.waiting, frames) {
             Err(ProducerError::OutboundFull)
         } else {
             Ok(frames)
@@ -77,8 +80,8 @@ impl Core {
     ) -> Result<(), ProducerError>
         ensures { result ≡ replay_answer well_formed entries frames self }
     {
-        let pending_full = too_many_pending(self.rings.pending.len, entries);
-        let outbound_full = too_many(self.rings.waiting, frames);
+        let pending_full = too_many::<{ Rings::PENDING }>(entries, self.rings.pending.count());
+        let outbound_full = too_many::<{ Rings::OUTBOUND }>(self.rings.waiting, frames);
         if !well_formed {
             Err(ProducerError::MalformedEntry)
         } else if pending_full {

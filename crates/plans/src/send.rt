@@ -5,7 +5,7 @@ ghost use Rattle.plans.specs.Send.{publish_of, frame_of, emitted, singled, joine
 use crate::delta::{Put, SendDelta};
 use crate::state::Core;
 use rules::batch::{single_of, with_message};
-use rules::chunks::chunked_bytes;
+use rules::chunks::Cut;
 use rules::numbers::{at_least_one, message_count};
 use types::answer::SendDecision;
 use types::entry::{OpSend, Publish, Replay};
@@ -141,11 +141,15 @@ impl Core {
     }
 
     // One record, whose chunks count singly.
-    pub fn emit_chunked(self, a: Sending, max_chunk_size: u32, total_chunks: u32) -> Emitted
-        ensures { result ≡ chunked a max_chunk_size total_chunks self }
+    pub fn emit_chunked(self, a: Sending, cut: Cut) -> Emitted
+        ensures { result ≡ chunked a cut.max_chunk_size cut.total_chunks self }
     {
+        let Cut {
+            max_chunk_size,
+            total_chunks,
+        } = cut;
         let count = total_chunks as usize;
-        let bytes = chunked_bytes(a.message.payload.len, total_chunks, max_chunk_size);
+        let bytes = cut.bytes(a.message.payload.len);
         let replay = Replay::Chunked {
             total_chunks,
             max_chunk_size,
@@ -213,18 +217,12 @@ impl Core {
         emit_delta(f.put, f.core.emit_single(a), 1)
     }
 
-    fn send_chunked(
-        self,
-        before: bool,
-        a: Sending,
-        max_chunk_size: u32,
-        total_chunks: u32,
-    ) -> SendDelta
-        ensures { result ≡ chunked_after before a max_chunk_size total_chunks self }
+    fn send_chunked(self, before: bool, a: Sending, cut: Cut) -> SendDelta
+        ensures { result ≡ chunked_after before a cut.max_chunk_size cut.total_chunks self }
     {
         let f = self.flush_if(before, a.publish_time);
-        let e = f.core.emit_chunked(a, max_chunk_size, total_chunks);
-        emit_delta(f.put, e, total_chunks as usize)
+        let e = f.core.emit_chunked(a, cut);
+        emit_delta(f.put, e, cut.total_chunks as usize)
     }
 
     fn follow(self, w: Way, a: Sending) -> SendDelta
@@ -238,7 +236,13 @@ impl Core {
                 before,
                 max_chunk_size,
                 total_chunks,
-            } => self.send_chunked(before, a, max_chunk_size, total_chunks),
+            } => {
+                let cut = Cut {
+                    max_chunk_size,
+                    total_chunks,
+                };
+                self.send_chunked(before, a, cut)
+            }
         }
     }
 

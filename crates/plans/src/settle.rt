@@ -3,20 +3,16 @@ ghost use Rattle.std.specs.Prelude.{◌≡◌};
 ghost use Rattle.plans.specs.Settle.{core_without, core_published};
 
 use crate::state::Core;
-use rules::rings::{Ring, Rings, head_after};
+use rules::rings::Rings;
 use upkeep::stats::published_ids;
 
 impl Core {
-    // The entry at a place leaves. The ring then begins one on, if it was the first; else the entries behind it have moved up.
+    // The entry at a place leaves.
     pub fn without_entry(self, place: usize) -> Core
         ensures { result ≡ core_without place self }
     {
-        let pending = Ring {
-            head: head_after(self.rings.pending.head, place),
-            len: self.rings.pending.len.min(Rings::PENDING).saturating_sub(1),
-        };
         let rings = Rings {
-            pending,
+            pending: self.rings.pending.without(place),
             ..self.rings
         };
         Core { rings, ..self }

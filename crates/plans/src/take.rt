@@ -7,7 +7,7 @@ use frames::after::{record_after, stays};
 use frames::answer::answer_of;
 use frames::outbound::FrontFrame;
 use frames::span::Span;
-use rules::rings::{Ring, Rings};
+use rules::rings::Rings;
 use types::error::ProducerError;
 use types::frame::FrameRecord;
 use types::outbound::OutboundFrame;
@@ -29,21 +29,14 @@ impl Core {
         ensures { result ≡ core_taken record_stays count self }
     {
         let outbound = self.rings.outbound;
-        let held = self.rings.held;
         let rings = Rings {
             outbound: if record_stays {
                 outbound
             } else {
-                Ring {
-                    head: (outbound.head % Rings::OUTBOUND + 1) % Rings::OUTBOUND,
-                    len: outbound.len.min(Rings::OUTBOUND).saturating_sub(1),
-                }
+                outbound.without_front(1)
             },
             waiting: self.rings.waiting.saturating_sub(1),
-            held: Ring {
-                head: (held.head % Rings::HELD + count.min(Rings::HELD)) % Rings::HELD,
-                len: held.len.min(Rings::HELD).saturating_sub(count),
-            },
+            held: self.rings.held.without_front(count),
             ..self.rings
         };
         Core { rings, ..self }

@@ -15,6 +15,13 @@ impl Cut {
     pub const METADATA_RESERVATION: usize = 1024;
 
     pub const MOST: usize = 0x7fff_ffff;
+
+    // The payload bytes of all chunks: the whole payload, unless the size is 0 or the count was stopped.
+    pub fn bytes(self, payload_len: usize) -> usize
+        ensures { result ≡ min payload_len (self.total_chunks * self.max_chunk_size) }
+    {
+        payload_len.min(self.total_chunks as usize * self.max_chunk_size as usize)
+    }
 }
 
 // The payload size of a chunk: the limit less the reservation, where the limit is over four times that.
@@ -38,13 +45,6 @@ pub fn compute_total_chunks(payload_len: usize, max_chunk_size: usize) -> u32
     } else {
         payload_len.div_ceil(max_chunk_size).clamp(1, Cut::MOST) as u32
     }
-}
-
-// The payload bytes of all chunks: the whole payload, unless the size is 0 or the count was stopped.
-pub fn chunked_bytes(payload_len: usize, total_chunks: u32, max_chunk_size: u32) -> usize
-    ensures { result ≡ min payload_len (total_chunks * max_chunk_size) }
-{
-    payload_len.min(total_chunks as usize * max_chunk_size as usize)
 }
 
 // How a payload over the limit is cut. A size that 32 bits cannot hold is none that the bound of 3 allows.
