@@ -4,26 +4,17 @@ use Rattle.laws.specs.Choice.{pick}
 use Rattle.laws.specs.Lists.{keeping}
 use Rattle.types.specs.declared.entry.OpSend.{OpSend}
 use Rattle.queue.specs.Tables.{is_batched}
-use Rattle.upkeep.specs.Pending.{cleared_all}
-use Rattle.upkeep.proofs.Keys as keys
 use Rattle.tables.specs.Drain.{cleared_each}
-use Rattle.tables.specs.Picked.{same_as, kind_of, PickedFrom}
-use Rattle.tables.specs.declared.pick.Picks.{Picks}
+use Rattle.tables.specs.Picked.{is_kind, kind_of, Lists}
+use Rattle.tables.specs.declared.list.Listed.{Listed}
 
 -- ── ids that leave the index: those up to i have ──
 
-pub length_cleared : (id n : ℕ) (is ms : List ℕ) → length is ≡ n → length ms ≡ n → length (cleared_all id is ms) ≡ n
-length_cleared id n is ms a b = keys.length_cleared id is ms (a ∙ sym b) ∙ b
-
 pub record Gone (l : List OpSend) (ids marks₀ marks : List ℕ) (i : ℕ) : Type 0 where
-  pub len : length marks ≡ 256
   pub low : i ≤ length l
   pub left : cleared_each (drop i l) ids marks ≡ cleared_each l ids marks₀
 
 -- ── the entries of one kind are those that pass a test ──
-
-abbrev pub is_kind : Bool → OpSend → Bool
-is_kind b op = same_as b (is_batched op.publish.replay)
 
 pub kept_kind : (b : Bool) (l : List OpSend) → keeping (is_kind b) l ≡ kind_of b l
 kept_kind true [] = refl
@@ -37,8 +28,7 @@ kept_kind false (op ∷ l) =
     turned true = refl
     turned false = refl
 
-pub picked_all : (b : Bool) (l : List OpSend) (n : ℕ) (r : Picks) → r.len ≤ length r.entries → take r.len r.entries ≡ keeping (is_kind b) (take n l)
-    → PickedFrom b (take n l) r
-picked_all b l n r h e =
-    let same = e ∙ kept_kind b (take n l) in
-    record { same = same; many = sym (length-take-le r.len r.entries h) ∙ ap length same }
+-- ── lists in arrays ──
+
+pub listed : {A : Type 0} {n : ℕ} (l : List A) (r : Listed A n) → r.len ≤ length r.items → take r.len r.items ≡ l → Lists l r
+listed l r h e = record { same = e; many = sym (length-take-le r.len r.items h) ∙ ap length e }

@@ -1,3 +1,4 @@
+pub mod Again
 pub mod Drain
 pub mod Picked
 pub mod Scalars

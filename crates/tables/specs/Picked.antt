@@ -1,9 +1,9 @@
 -- The entries of one kind.
-use Rattle.std.specs.Prelude.{◌≡◌, Bool, not, List, length, take}
+use Rattle.std.specs.Prelude.{◌≡◌, ℕ, Bool, not, List, length, take}
 use Rattle.laws.specs.Choice.{pick}
 use Rattle.types.specs.declared.entry.OpSend.{OpSend}
-use Rattle.queue.specs.Tables.{batched_of, framed_of}
-use Rattle.tables.specs.declared.pick.Picks.{Picks}
+use Rattle.queue.specs.Tables.{is_batched, batched_of, framed_of}
+use Rattle.tables.specs.declared.list.Listed.{Listed}
 
 abbrev pub same_as : Bool → Bool → Bool
 same_as batched is = pick batched is (not is)
@@ -12,7 +12,11 @@ same_as batched is = pick batched is (not is)
 abbrev pub kind_of : Bool → List OpSend → List OpSend
 kind_of batched l = pick batched (batched_of l) (framed_of l)
 
--- the array starts with them, and tells how many they are
-pub record PickedFrom (batched : Bool) (l : List OpSend) (r : Picks) : Type 0 where
-  pub same : take r.len r.entries ≡ kind_of batched l
-  pub many : r.len ≡ length (kind_of batched l)
+-- an entry is of the kind
+abbrev pub is_kind : Bool → OpSend → Bool
+is_kind batched op = same_as batched (is_batched op.publish.replay)
+
+-- the array starts with a list, and tells how long it is
+pub record Lists {A : Type 0} {n : ℕ} (l : List A) (r : Listed A n) : Type 0 where
+  pub same : take r.len r.items ≡ l
+  pub many : r.len ≡ length l

@@ -1,20 +1,18 @@
 -- What the scalars are after a drain or a snapshot. These mirror the code.
-use Rattle.std.specs.Prelude.{ℕ, ◌-◌, min, false, None, Option, Some}
-use Rattle.laws.specs.Ring.{slot}
+use Rattle.std.specs.Prelude.{ℕ, false, None, Option, Some}
 use Rattle.types.specs.Empty.{empty_batch}
 use Rattle.types.specs.declared.settings.Setting.TheVariants.{BrokerReady}
 use Rattle.queue.specs.Settings.{changed}
 use Rattle.queue.specs.Tables.{failed}
 use Rattle.plans.specs.State.{core_rings}
-use Rattle.plans.specs.Settle.{pending_ring}
+use Rattle.rules.specs.Rings.{without_front}
 use Rattle.plans.specs.declared.state.Core.{Core}
 use Rattle.rules.specs.declared.rings.Rings.{Rings}
 
 abbrev pub core_without_front : ℕ → Core → Core
 core_without_front n c =
     let r = c.rings in
-    let len = min r.pending.len 256 in
-    core_rings (pending_ring (slot 256 r.pending.head (min n len)) (len - min n len) r) c
+    core_rings (record r { pending = without_front 256 n r.pending }) c
 
 abbrev pub rings_emptied : Rings → Rings
 rings_emptied r =

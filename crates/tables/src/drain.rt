@@ -46,12 +46,11 @@ pub fn gone_count(entries: &[OpSend], timeout: Option<u64>, due: Option<u64>) ->
     }
 }
 
-// The marks once the ids of the entries have left the index.
-pub fn unmark_each(mut marks: [u8; 256], ids: [u64; 256], gone: &[OpSend]) -> [u8; 256]
-    ensures { result ≡ cleared_each gone.now ids marks }
+// The ids of the entries leave the index.
+pub fn unmark_each(marks: &mut [u8; 256], ids: &[u64; 256], gone: &[OpSend])
+    ensures { marks.new ≡ cleared_each gone.now ids.now marks.old }
 {
     for op in gone {
-        unmark(&mut marks, ids, op.sequence_id.0);
+        unmark(marks, ids, op.sequence_id.0);
     }
-    marks
 }

@@ -1,6 +1,7 @@
 // What a replay makes of an entry, and which entries it takes (document 01, 'receipts, errors, snapshot, replay').
 ghost use Rattle.std.specs.Prelude.{◌≡◌};
-ghost use Rattle.queue.specs.Tables.{is_batched, frames_of, kind_again, again, well_formed_as};
+ghost use Rattle.queue.specs.Tables.{is_batched, frames_of, kind_again, again, well_formed_as, all_well_formed};
+ghost use Rattle.tables.specs.Again.{unless_batched};
 
 use rules::bounds::within_bounds;
 use rules::chunks::compute_total_chunks;
@@ -25,37 +26,38 @@ pub fn frames_of(replay: Replay) -> usize
     }
 }
 
-// A chunked message starts anew, however many of its chunks had been taken.
-pub fn kind_again(replay: Replay) -> FrameKind
-    ensures { result ≡ kind_again replay }
+// What a replay pushes; nothing of a batched entry. A chunked message starts anew, however many of its chunks had been taken.
+fn kind_again(replay: Replay) -> Option<FrameKind>
+    ensures { result ≡ unless_batched replay (kind_again replay) }
 {
     match replay {
-        Replay::Batched | Replay::Single => FrameKind::Single,
+        Replay::Batched => None,
+        Replay::Single => Some(FrameKind::Single),
         Replay::Chunked {
             total_chunks,
             max_chunk_size,
-        } => FrameKind::Chunked(ChunkedMessageContext {
+        } => Some(FrameKind::Chunked(ChunkedMessageContext {
             total_chunks,
             next_chunk: 0,
             max_chunk_size,
-        }),
+        })),
     }
 }
 
-// The frame record that a replay pushes. Of a batched entry it means nothing.
-pub fn again(op: OpSend) -> FrameRecord
-    ensures { result ≡ again op }
+// The frame record that a replay pushes, if any.
+pub fn again(op: OpSend) -> Option<FrameRecord>
+    ensures { result ≡ unless_batched op.publish.replay (again op) }
 {
     let publish = op.publish;
     let uuid = publish.uuid;
-    FrameRecord {
+    kind_again(publish.replay).map(|kind| FrameRecord {
         sequence_id: op.sequence_id,
         publish_time: publish.publish_time,
         producer_name: publish.producer_name,
         uuid,
         message: publish.message,
-        kind: kind_again(publish.replay),
-    }
+        kind,
+    })
 }
 
 // 12. The message's bounds and the chunk count matter where the entry has frames.
@@ -74,4 +76,16 @@ pub fn well_formed(op: OpSend) -> bool
             within_bounds(publish.message, publish.reservation) && total_chunks == count
         }
     }
+}
+
+// 12, of a whole table: also of the entries past those that a replay takes.
+pub fn all_well_formed(table: &[OpSend]) -> bool
+    ensures { result ≡ all_well_formed table.now }
+{
+    for op in table {
+        if !well_formed(*op) {
+            return false;
+        }
+    }
+    true
 }

@@ -4,7 +4,7 @@
 pub mod copy;
 pub mod drain;
 pub mod entries;
-pub mod load;
+pub mod list;
 pub mod pick;
 pub mod pushes;
 pub mod scalars;

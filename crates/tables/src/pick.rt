@@ -1,30 +1,47 @@
-// The entries that a snapshot drops, and those that it keeps for a replay.
-ghost use Rattle.std.specs.Prelude.{◌≡◌, ◌≤◌, take};
-ghost use Rattle.tables.specs.Picked.{PickedFrom};
+// Entries that are chosen from others.
+ghost use Rattle.std.specs.Prelude.{◌≡◌, Bool, take};
+ghost use Rattle.types.specs.declared.entry.OpSend.{OpSend};
+ghost use Rattle.laws.specs.Lists.{keeping};
+ghost use Rattle.tables.specs.Picked.{Lists, is_kind};
 
 use crate::entries::is_batched;
+use crate::list::Listed;
+use rules::blank::no_entry;
 use types::entry::OpSend;
 
-// The first `len` entries.
-#[derive(Clone, Copy)]
-pub struct Picks {
-    pub entries: [OpSend; 256],
-    pub len: usize,
+// Which entries are chosen.
+pub trait Choice {
+    ghost chosen: { Self → OpSend → Bool };
+
+    fn chooses(&self, op: OpSend) -> bool
+        ensures { result ≡ chosen self.now op };
 }
 
-// Of the first n entries the batched ones, or the others, in order. The array comes by value, since there is no heap: what is
-// picked overwrites a copy of it.
-pub fn picked(entries: [OpSend; 256], n: usize, batched: bool) -> Picks
-    requires { n ≤ 256 }
-    ensures { PickedFrom batched (take n entries) result }
+// The batched ones, or the others.
+#[derive(Clone, Copy)]
+pub struct OfKind {
+    pub batched: bool,
+}
+
+impl Choice for OfKind {
+    ghost chosen = { λ k op. is_kind k.batched op };
+
+    fn chooses(&self, op: OpSend) -> bool {
+        is_batched(op.publish.replay) == self.batched
+    }
+}
+
+// Those of the first 256 that are chosen, in order.
+pub fn picked<C: Choice + Copy>(entries: &[OpSend], choice: C) -> Listed<OpSend, 256>
+    ensures { Lists (keeping (C.chosen choice) (take 256 entries.now)) result }
 {
-    let mut out = entries;
+    let mut items = [no_entry(); 256];
     let mut len = 0;
-    for op in &entries[..n] {
-        if is_batched(op.publish.replay) == batched {
-            out[len] = *op;
+    for op in &entries[..entries.len().min(256)] {
+        if choice.chooses(*op) {
+            items[len] = *op;
             len += 1;
         }
     }
-    Picks { entries: out, len }
+    Listed { items, len }
 }

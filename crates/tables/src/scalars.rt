@@ -3,20 +3,17 @@ ghost use Rattle.std.specs.Prelude.{◌≡◌};
 ghost use Rattle.tables.specs.Scalars.{core_without_front, core_emptied, core_after, core_snapshot};
 
 use plans::state::Core;
-use rules::rings::{Ring, Rings};
+use rules::rings::Rings;
 use types::batch::BatchContainer;
 
 // The first n entries leave, or all where there are fewer.
 pub fn without_front(c: Core, n: usize) -> Core
     ensures { result ≡ core_without_front n c }
 {
-    let len = c.rings.pending.len.min(Rings::PENDING);
-    let k = n.min(len);
-    let pending = Ring {
-        head: (c.rings.pending.head % Rings::PENDING + k) % Rings::PENDING,
-        len: len - k,
+    let rings = Rings {
+        pending: c.rings.pending.without_front(n),
+        ..c.rings
     };
-    let rings = Rings { pending, ..c.rings };
     Core { rings, ..c }
 }
 

@@ -1,12 +1,18 @@
--- `pick::picked`: those gathered are the entries of the kind.
-use Rattle.std.proofs.Common.{arith, length-take}
+-- `pick::picked`: those gathered are all that are chosen.
+use Rattle.std.proofs.Common.{◌≡◌, ℕ, min, length, length-take, take, ap, ◌∙◌, arith}
+use Rattle.std.proofs.lemmas.List.{take_min}
+use Rattle.laws.specs.Lists.{keeping}
 use Rattle.laws.proofs.Gathers.{keep_end}
-use Rattle.tables.proofs.Turns.{is_kind, picked_all}
+use Rattle.tables.proofs.Turns.{listed}
 use Rattle.tables.proofs.pick.picked.Goals as goal
 
 pub returns : goal.returns
-returns c =
-    let a = c.args in
+returns g c =
+    let l = c.args.entries.now in
+    let p = g.C.Choice.chosen c.args.choice in
     let k = c.loop-op in
-    picked_all a.batched a.entries a.n _ (omega arith)
-    (keep_end 256 (is_kind a.batched) a.entries a.n (omega arith) (omega arith) k.out k.len k.op-index k.invariant (omega (arith, length-take a.n a.entries)))
+    let n = c.min.result in
+    let q : length (take n l) ≡ min 256 (length l) = omega (arith, c.min.ensures, length-take n l) in
+    let t : take (length (take n l)) l ≡ take 256 l = ap (λ (i : ℕ). take i l) q ∙ take_min 256 l in
+    listed (keeping p (take 256 l)) _ (omega (arith, k.invariant.len, k.invariant.low, k.invariant.high, c.min.ensures, length-take n l))
+    (keep_end 256 p l _ (omega (arith, c.min.ensures, length-take n l)) (omega (arith, c.min.ensures, length-take n l)) k.items k.len k.op-index k.invariant (omega (arith, length-take n l)) ∙ ap (keeping p) t)
