@@ -25,7 +25,7 @@ impl<'a> Held<'a> {
         ensures { result ≡ batch_span n (ring 512 self.entry.messages.now self.entry.ring.head self.entry.ring.len) }
     {
         let mut span = empty_span();
-        for i in 0..self.ring.len.min(512) {
+        for i in 0..self.ring.count() {
             span = with_item(span, self.messages[self.ring.slot(i)], n)?;
         }
         Some(span)
@@ -37,7 +37,7 @@ impl<'a> Held<'a> {
         ensures { Puts (batch_payload store.now (ring 512 self.entry.messages.now self.entry.ring.head self.entry.ring.len)) 0 out.old out.new result }
     {
         let mut to = 0;
-        for i in 0..self.ring.len.min(512) {
+        for i in 0..self.ring.count() {
             to = put_item(out, to, store, self.messages[self.ring.slot(i)]);
         }
         to

@@ -33,6 +33,7 @@ use Rattle.frames.specs.Payload.{payload_of, Writable}
 use Rattle.frames.specs.Answer.{fitting, answer_of}
 use Rattle.frames.specs.Outbound.{present_if, frame_out}
 use Rattle.frames.specs.After.{has_next, stays_of, record_after}
+use Rattle.rules.specs.Rings.{without_front}
 use Rattle.plans.specs.Take.{core_taken, plan_of, plan_with, take_planned}
 use Rattle.plans.specs.declared.state.Core.{Core}
 use Rattle.frames.specs.declared.span.Span.{Span}
@@ -152,16 +153,22 @@ module _ (s : ProducerState) (f : Full s) (d : FrameRecord) where
         ∙ ring_set 1024 (lit< tt) s.outbound f.outbound h n 0 x (omega arith)
         ∙ ap (λ (l : List FrameRecord). set l 0 x) (some_waiting b)
 
-    gone : ring 1024 (set s.outbound (s.core.rings.outbound.head % 1024) x) (slot 1024 s.core.rings.outbound.head 1) (min s.core.rings.outbound.len 1024 - 1) ≡ behind
+    gone : ring 1024 (set s.outbound (s.core.rings.outbound.head % 1024) x) (without_front 1024 1 s.core.rings.outbound).head
+        (without_front 1024 1 s.core.rings.outbound).len
+        ≡ behind
     gone =
         let h = s.core.rings.outbound.head in
         let n = s.core.rings.outbound.len in
-        ring_drop 1024 (lit< tt) (set s.outbound (h % 1024) x) (simp length-set f.outbound) x h n 1 (omega arith) ∙ ap (drop 1) stored
+        let slots = set s.outbound (h % 1024) x in
+        let one : min 1 (min n 1024) ≡ 1 = omega arith in
+        ap (λ (k : ℕ). ring 1024 slots (slot 1024 h k) (min n 1024 - k)) one
+        ∙ ring_drop 1024 (lit< tt) slots (simp length-set f.outbound) x h n 1 (omega arith)
+        ∙ ap (drop 1) stored
 
   rest_is : 0 < s.core.rings.outbound.len → (r : FrameRecord) (k : FrameKind)
       → ring 1024 (set s.outbound (s.core.rings.outbound.head % 1024) (record_after r k))
-      (pick (stays_of k) s.core.rings.outbound.head (slot 1024 s.core.rings.outbound.head 1))
-      (pick (stays_of k) s.core.rings.outbound.len (min s.core.rings.outbound.len 1024 - 1))
+      (pick (stays_of k) s.core.rings.outbound (without_front 1024 1 s.core.rings.outbound)).head
+      (pick (stays_of k) s.core.rings.outbound (without_front 1024 1 s.core.rings.outbound)).len
       ≡ rest_of r k behind
   rest_is b r Single = gone b r
   rest_is b r (Batch y) = gone b r
@@ -169,8 +176,8 @@ module _ (s : ProducerState) (f : Full s) (d : FrameRecord) where
     where
       go : (t : Bool)
           → ring 1024 (set s.outbound (s.core.rings.outbound.head % 1024) (pick t (with_kind (Chunked (next_chunk c)) r) r))
-          (pick t s.core.rings.outbound.head (slot 1024 s.core.rings.outbound.head 1))
-          (pick t s.core.rings.outbound.len (min s.core.rings.outbound.len 1024 - 1))
+          (pick t s.core.rings.outbound (without_front 1024 1 s.core.rings.outbound)).head
+          (pick t s.core.rings.outbound (without_front 1024 1 s.core.rings.outbound)).len
           ≡ pick t (with_kind (Chunked (next_chunk c)) r ∷ behind) behind
       go true = stored b (with_kind (Chunked (next_chunk c)) r)
       go false = gone b r
@@ -187,17 +194,14 @@ module _ (s : ProducerState) (f : Full s) (d : FrameRecord) where
   first_is b = ring_takes s.held f.held s.core.rings.held.head s.core.rings.held.len b.num_messages
 
   dropped_is : SingleMessage → (k : FrameKind)
-      → ring 512 s.held ((s.core.rings.held.head % 512 + min (held_count k s.core.rings.held.len) 512) % 512)
-      (min s.core.rings.held.len 512 - held_count k s.core.rings.held.len)
+      → ring 512 s.held (without_front 512 (held_count k s.core.rings.held.len) s.core.rings.held).head
+      (without_front 512 (held_count k s.core.rings.held.len) s.core.rings.held).len
       ≡ drop (holds k) held_list
   dropped_is m k =
       let h = s.core.rings.held.head in
       let n = s.core.rings.held.len in
-      let c = min (holds k) (min n 512) in
-      let small : min c 512 ≡ c = omega arith in
-      ap (λ (j : ℕ). ring 512 s.held ((h % 512 + min j 512) % 512) (min n 512 - j)) (count_is k n)
-      ∙ ap (λ (j : ℕ). ring 512 s.held ((h % 512 + j) % 512) (min n 512 - c)) small
-      ∙ ring_drops 512 (lit< tt) s.held f.held m h n (holds k)
+      let gone : min (held_count k n) (min n 512) ≡ min (holds k) (min n 512) = omega (arith, count_is k n) in
+      ap (λ (j : ℕ). ring 512 s.held (slot 512 h j) (min n 512 - j)) gone ∙ ring_drops 512 (lit< tt) s.held f.held m h n (holds k)
 
   -- the state once the frame is gone
   abbrev pub state_after : FrameRecord → ProducerState
