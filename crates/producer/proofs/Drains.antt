@@ -17,7 +17,7 @@ use Rattle.queue.specs.Tables.{drain_pending_sends}
 use Rattle.upkeep.specs.Pending.{cleared_all}
 use Rattle.tables.specs.Drain.{cleared_each, gone_count}
 use Rattle.tables.proofs.Blank.{blank}
-use Rattle.tables.proofs.Turns.{length_cleared}
+use Rattle.upkeep.proofs.Keys.{length_cleared}
 use Rattle.producer.specs.Tables.{Drains, gone_of, drain_of, plan_of, drained_state}
 use Rattle.producer.specs.View.{view, entries, slots_of}
 use Rattle.producer.specs.declared.state.ProducerState.{ProducerState}
@@ -52,30 +52,28 @@ unfolding view
 timeout_is s = refl
 
 -- what is planned, against the view
-module _ (s : ProducerState) (f : Full s) (due : Option ℕ) (es : List OpSend) (e : take (min s.core.rings.pending.len 256) es ≡ (view s).pending) where
+module _ (s : ProducerState) (f : Full s) (due : Option ℕ) (es : List OpSend) (e : es ≡ (view s).pending) where
   planned_count : ℕ
-  planned_count = gone_count due s.core.settings.delays.send_timeout (take (min s.core.rings.pending.len 256) es)
+  planned_count = gone_count due s.core.settings.delays.send_timeout es
 
   record Plans (n : ℕ) : Type 0 where
     gone : take n es ≡ gone_of due (view s)
     many : n ≡ length (gone_of due (view s))
-    few : n ≤ 256
+    few : n ≤ length es
 
   plans : Plans planned_count
   unfolding planned_count
   plans =
-      let l : length (view s).pending ≡ min s.core.rings.pending.len 256 = length_view s f in
       let most : count_of due (view s) ≤ length (view s).pending = count_most due (view s) in
-      let n : ℕ = gone_count due s.core.settings.delays.send_timeout (take (min s.core.rings.pending.len 256) es) in
+      let n : ℕ = gone_count due s.core.settings.delays.send_timeout es in
       let k : n ≡ count_of due (view s) = λ j. gone_count due (timeout_is s j) (e j) in
       let first : take n es ≡ gone_of due (view s) =
-      sym (take-take n (min s.core.rings.pending.len 256) es (omega arith))
-      ∙ ap (take n) e
+      ap (take n) e
       ∙ ap (λ (j : ℕ). take j (view s).pending) k
       ∙ gone_is due (view s) in
       let many : n ≡ length (gone_of due (view s)) =
       k ∙ sym (length-take-le (count_of due (view s)) (view s).pending most) ∙ ap length (gone_is due (view s)) in
-      record { gone = first; many = many; few = omega arith }
+      record { gone = first; many = many; few = omega (arith, ap length e) }
 
 -- ── what is left ──
 
@@ -94,10 +92,9 @@ unmark_ring (op ∷ gone) is ms ps h n =
     ∙ ap (unmark_all gone)
     (ap (λ (l : List OpSend). ring 256 l h n) (unmarked_entries id is ms ps) ∙ sym (ring_map (unmark id) 256 (entries is ms ps) h n))
 
-length_each : (gone : List OpSend) (is ms : List ℕ) → length is ≡ 256 → length ms ≡ 256 → length (cleared_each gone is ms) ≡ 256
-length_each [] is ms a b = b
-length_each (op ∷ gone) is ms a b =
-    length_each gone is (cleared_all op.sequence_id.0 is ms) a (length_cleared op.sequence_id.0 256 is ms a b)
+length_each : (gone : List OpSend) (is ms : List ℕ) → length (cleared_each gone is ms) ≡ length ms
+length_each [] is ms = refl
+length_each (op ∷ gone) is ms = length_each gone is (cleared_all op.sequence_id.0 is ms) ∙ length_cleared op.sequence_id.0 is ms
 
 -- the queue that a drain leaves
 abbrev left_of : Option ℕ → Queue → Queue
@@ -140,7 +137,7 @@ left_view s f (Some time) es p e k =
     let slots : List OpSend = slots_of (drained_state due es p s) in
     let len : length slots ≡ 256 =
     length_entries 256 s.pending_ids (cleared_each gone s.pending_ids s.pending_marks) s.pending f.ids
-    (length_each gone s.pending_ids s.pending_marks f.ids f.marks) f.pending in
+    (length_each gone s.pending_ids s.pending_marks ∙ f.marks) f.pending in
     let moved : ring 256 slots (slot 256 h (min p (min n 256))) (min n 256 - min p (min n 256)) ≡ drop p (ring 256 slots h n) =
     ring_drops 256 (lit< tt) slots len blank h n p in
     let all : ring 256 slots h n ≡ unmark_all gone (view s).pending = unmark_ring gone s.pending_ids s.pending_marks s.pending h n in
@@ -150,7 +147,7 @@ left_view s f (Some time) es p e k =
 
 -- ── the call ──
 
-module _ (s : ProducerState) (f : Full s) (due : Option ℕ) (es : List OpSend) (e : take (min s.core.rings.pending.len 256) es ≡ (view s).pending)
+module _ (s : ProducerState) (f : Full s) (due : Option ℕ) (es : List OpSend) (e : es ≡ (view s).pending)
     (ys : List OpSend) where
   -- a plan that goes through, and one that does not
   record Fits (k : ℕ) : Type 0 where
@@ -163,7 +160,7 @@ module _ (s : ProducerState) (f : Full s) (due : Option ℕ) (es : List OpSend) 
       let both = ok_of (ltb (length ys) (planned_count s f due es e)) (planned_count s f due es e) k TooShort p in
       subst Fits both.1 (record { plan = plans s f due es e; room = ltb-false (length ys) (planned_count s f due es e) both.0 })
 
-  pub plan_fits : (k : ℕ) → plan_of due es (length ys) s ≡ Ok k → (k ≤ 256) × (k ≤ length ys)
+  pub plan_fits : (k : ℕ) → plan_of due es (length ys) s ≡ Ok k → (k ≤ length es) × (k ≤ length ys)
   plan_fits k p = let g = fits k p in (g.plan.few, g.room)
 
   pub drains_short : (x : ProducerError) → plan_of due es (length ys) s ≡ Err x → Drains due s ys (Err x) s ys
@@ -176,13 +173,14 @@ module _ (s : ProducerState) (f : Full s) (due : Option ℕ) (es : List OpSend) 
       subst (λ (y : ProducerError). Drains due s ys (Err y) s ys) both.1
       (sym (drain_is due (length ys) (view s) ∙ ap (λ (b : Bool). pick b (view s, refused 9 []) (left_of due (view s), done gone)) short), refl, refl)
 
-  pub drains_done : (k : ℕ) → plan_of due es (length ys) s ≡ Ok k → (zs : List OpSend) → zs ≡ table_after (take k es) ys
+  pub drains_done : (k : ℕ) → plan_of due es (length ys) s ≡ Ok k → (zs : List OpSend) → zs ≡ table_after (take (length ys) (take k es)) ys
       → Drains due s ys (Ok k) (drained_state due es k s) zs
   drains_done k p zs z =
       let g = fits k p in
       let gone : List OpSend = gone_of due (view s) in
       let room : ltb (length ys) (length gone) ≡ false = le-ltb (length ys) (length gone) (omega (arith, g.plan.many, g.room)) in
-      let zg : zs ≡ table_after gone ys = z ∙ ap (λ (l : List OpSend). table_after l ys) g.plan.gone in
+      let all : take (length ys) (take k es) ≡ gone = ap (take (length ys)) g.plan.gone ∙ take_all (length ys) gone (omega (arith, g.plan.many, g.room)) in
+      let zg : zs ≡ table_after gone ys = z ∙ ap (λ (l : List OpSend). table_after l ys) all in
       let back : take k zs ≡ gone = ap (take k) zg ∙ take_at gone (drop (length gone) ys) k (sym g.plan.many) in
       let c : k ≡ count_of due (view s) =
       g.plan.many ∙ ap length (sym (gone_is due (view s))) ∙ length-take-le (count_of due (view s)) (view s).pending (count_most due (view s)) in (

@@ -43,15 +43,11 @@ module _ (s : ProducerState) (f : Full s) (all : List OpSend) where
   listing_start e = record { len = e; low = zero-le; same = refl }
 
   module _ (i : ℕ) (l : Listing s all i) where
-    pub listing_step : (d : Publish) (op : OpSend) → i < min s.core.rings.pending.len 256
-        → op ≡ entry_of (get_or s.pending_ids (slot 256 s.core.rings.pending.head i) 0)
-        (get_or s.pending_marks (slot 256 s.core.rings.pending.head i) 0)
-        (get_or s.pending (slot 256 s.core.rings.pending.head i) d)
-        → Listing s (set all i op) (i + 1)
-    listing_step d op b e =
+    pub listing_step : (op : OpSend) → i < min s.core.rings.pending.len 256 → get_or (view s).pending i op ≡ op → Listing s (set all i op) (i + 1)
+    listing_step op b there =
         let e₁ : length (view s).pending ≡ min s.core.rings.pending.len 256 = length_view s f in
         record {
           len = simp length-set l.len;
           low = omega arith;
-          same = take_copied (view s).pending all i op (omega arith) (omega (arith, l.len)) (entry_there s f i d op e) l.same;
+          same = take_copied (view s).pending all i op (omega arith) (omega (arith, l.len)) there l.same;
         }

@@ -1,12 +1,13 @@
 -- An entry leaves the pending ring: the first by moving the head on, another once the gap is closed. Assumes nothing.
 use Rattle.std.proofs.Common.{◌≡◌, ℕ, ◌-◌, ◌<◌, min, List, sym, refl, ap, ◌∙◌, arith, lit<, eq-eqb, ne_eqb}
 use Rattle.laws.specs.Lists.{without}
-use Rattle.laws.specs.Ring.{ring, slot}
+use Rattle.laws.specs.Ring.{ring}
 use Rattle.laws.proofs.Choice.{pick_true, pick_false}
-use Rattle.laws.proofs.Rings.{ring_drop}
+use Rattle.laws.proofs.Rings.{ring_drops}
 use Rattle.types.specs.declared.entry.OpSend.{OpSend}
 use Rattle.queue.specs.Queue.{with_pending}
-use Rattle.rules.specs.Rings.{head_after}
+use Rattle.rules.specs.Rings.{without_front, without_place}
+use Rattle.rules.specs.declared.rings.Ring.{Ring}
 use Rattle.plans.specs.Settle.{core_without}
 use Rattle.producer.specs.View.{view, slots_of}
 use Rattle.producer.specs.Settle.{with_slots, GapClosed}
@@ -18,8 +19,7 @@ use Rattle.producer.proofs.Scalars.{with_core}
 module _ (s : ProducerState) (place : ℕ) where
   -- the pending entries of a state with these slots, once the entry at the place has left
   left : ProducerState → List OpSend
-  left t =
-      ring 256 (slots_of t) (head_after s.core.rings.pending.head place) (min s.core.rings.pending.len 256 - 1)
+  left t = let r = without_place 256 place s.core.rings.pending in ring 256 (slots_of t) r.head r.len
 
   removed : (t : ProducerState) → t ≡ with_slots t s → left t ≡ without (view s).pending place
       → view (with_core (core_without place s.core) t) ≡ with_pending (without (view s).pending place) (view s)
@@ -34,8 +34,8 @@ module _ (s : ProducerState) (place : ℕ) where
       let h = s.core.rings.pending.head in
       let n = s.core.rings.pending.len in
       removed s refl
-      (ap (λ (k : ℕ). ring 256 (slots_of s) k (min n 256 - 1)) (pick_true (slot 256 h 1) h (eq-eqb place 0 z))
-      ∙ ring_drop 256 (lit< tt) (slots_of s) (slots s f) blank h n 1 (omega arith)
+      (ap (λ (r : Ring 256). ring 256 (slots_of s) r.head r.len) (pick_true (without_front 256 1 s.core.rings.pending) (record { head = h; len = min n 256 - 1 }) (eq-eqb place 0 z))
+      ∙ ring_drops 256 (lit< tt) (slots_of s) (slots s f) blank h n 1
       ∙ ap (λ (k : ℕ). without (ring 256 (slots_of s) h n) k) (sym z))
 
   pub removed_later : (t : ProducerState) → (place ≡ 0 → ⊥) → GapClosed place s t
@@ -45,4 +45,4 @@ module _ (s : ProducerState) (place : ℕ) where
       let h = s.core.rings.pending.head in
       let n = s.core.rings.pending.len in
       removed t g.same
-      (ap (λ (k : ℕ). ring 256 (slots_of t) k (min n 256 - 1)) (pick_false (slot 256 h 1) h (ne_eqb place 0 ne)) ∙ g.moved)
+      (ap (λ (r : Ring 256). ring 256 (slots_of t) r.head r.len) (pick_false (without_front 256 1 s.core.rings.pending) (record { head = h; len = min n 256 - 1 }) (ne_eqb place 0 ne)) ∙ g.moved)

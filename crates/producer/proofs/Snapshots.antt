@@ -1,6 +1,6 @@
 -- The snapshot: what is planned is what the definitions hand out, and the state after it stands for their queue. Assumes nothing.
 use Rattle.std.specs.Prelude.{Err, Ok, Result}
-use Rattle.std.proofs.Common.{◌≡◌, ℕ, ◌<◌, ◌≤◌, Bool, true, false, not, ◌&&◌, ◌||◌, ltb, leb, List, [], ◌∷◌, length, take, drop, sym, refl, ap, ◌∙◌, subst, zero-le, arith, take_at, le-ltb, lt-ltb, le-leb, leb-true}
+use Rattle.std.proofs.Common.{◌≡◌, ℕ, ◌<◌, ◌≤◌, Bool, true, false, not, ◌&&◌, ◌||◌, ltb, leb, List, [], ◌∷◌, length, take, drop, sym, refl, ap, ◌∙◌, subst, zero-le, arith, take_at, take_all, le-ltb, lt-ltb, le-leb, leb-true}
 use native.Mathlib.Decide.{dec_lt}
 use borrow.Author.Tests.{lt-leb}
 use Rattle.laws.specs.Choice.{pick}
@@ -25,31 +25,6 @@ use Rattle.producer.proofs.Full.{Full}
 use Rattle.producer.proofs.Plans.{ok_then, err_else}
 use Rattle.laws.proofs.Choice.{differ}
 use Rattle.producer.proofs.Locate.{length_view}
-
--- ── what is handed out ──
-
-batched_most : (l : List OpSend) → length (batched_of l) ≤ length l
-batched_most [] = zero-le
-batched_most (op ∷ l) = go (is_batched op.publish.replay) (batched_most l)
-  where
-    go : (b : Bool) → length (batched_of l) ≤ length l → length (pick b (op ∷ batched_of l) (batched_of l)) ≤ length (op ∷ l)
-    go true h = omega arith
-    go false h = omega arith
-
-framed_most : (l : List OpSend) → length (framed_of l) ≤ length l
-framed_most [] = zero-le
-framed_most (op ∷ l) = go (is_batched op.publish.replay) (framed_most l)
-  where
-    go : (b : Bool) → length (framed_of l) ≤ length l → length (pick b (framed_of l) (op ∷ framed_of l)) ≤ length (op ∷ l)
-    go true h = omega arith
-    go false h = omega arith
-
-module _ (s : ProducerState) (f : Full s) where
-  pub dropped_few : length (batched_of (view s).pending) ≤ 256
-  dropped_few = omega (arith, batched_most (view s).pending, length_view s f)
-
-  pub replay_few : length (framed_of (view s).pending) ≤ 256
-  replay_few = omega (arith, framed_most (view s).pending, length_view s f)
 
 -- ── the call ──
 
@@ -155,15 +130,6 @@ module _ (s : ProducerState) (ds rs : List OpSend) where
   unfolding d f
   goes k p = let both = ok_then Fits counts k TooShort p in record { fits = both.0; is = both.1 }
 
-  pub snapshot_fits : Full s → (k : Snapshot) → Planned ≡ Ok k
-      → ((k.dropped ≤ 256) × (k.dropped ≤ length ds)) × ((k.replay ≤ 256) × (k.replay ≤ length rs))
-  unfolding d f
-  snapshot_fits full k p =
-      let g = goes k p in
-      let both = both_leb (leb (length d) (length ds)) (leb (length f) (length rs)) g.fits in
-      subst (λ (x : Snapshot). ((x.dropped ≤ 256) × (x.dropped ≤ length ds)) × ((x.replay ≤ 256) × (x.replay ≤ length rs))) g.is
-      ((dropped_few s full, leb-true (length d) (length ds) both.0), (replay_few s full, leb-true (length f) (length rs) both.1))
-
   pub snaps_short : (x : ProducerError) → Planned ≡ Err x → Snaps s ds rs (Err x) s ds rs
   unfolding d f
   snaps_short x p =
@@ -171,18 +137,18 @@ module _ (s : ProducerState) (ds rs : List OpSend) where
       subst (λ (y : ProducerError). Snaps s ds rs (Err y) s ds rs) both.1
       (sym (snapshot_is (length ds) (length rs) (view s) false both.0), refl, refl, refl)
 
-  pub snaps_done : (k : Snapshot) → Planned ≡ Ok k → (es fs zs us : List OpSend)
-      → take (length (batched_of (view s).pending)) es ≡ batched_of (view s).pending
-      → take (length (framed_of (view s).pending)) fs ≡ framed_of (view s).pending
-      → zs ≡ table_after (take k.dropped es) ds → us ≡ table_after (take k.replay fs) rs
+  pub snaps_done : (k : Snapshot) → Planned ≡ Ok k → (zs us : List OpSend)
+      → zs ≡ table_after (take (length ds) (batched_of (view s).pending)) ds
+      → us ≡ table_after (take (length rs) (framed_of (view s).pending)) rs
       → Snaps s ds rs (Ok k) (store_core (core_snapshot k.dropped s.core) s) zs us
   unfolding d f
-  snaps_done k p es fs zs us de fe z u =
+  snaps_done k p zs us z u =
       let g = goes k p in
+      let both = both_leb (leb (length d) (length ds)) (leb (length f) (length rs)) g.fits in
       let zd : zs ≡ table_after d ds =
-      z ∙ ap (λ (x : Snapshot). table_after (take x.dropped es) ds) (sym g.is) ∙ ap (λ (l : List OpSend). table_after l ds) de in
+      z ∙ ap (λ (l : List OpSend). table_after l ds) (take_all (length ds) d (leb-true (length d) (length ds) both.0)) in
       let uf : us ≡ table_after f rs =
-      u ∙ ap (λ (x : Snapshot). table_after (take x.replay fs) rs) (sym g.is) ∙ ap (λ (l : List OpSend). table_after l rs) fe in
+      u ∙ ap (λ (l : List OpSend). table_after l rs) (take_all (length rs) f (leb-true (length f) (length rs) both.1)) in
       let bd = back d ds zs zd in
       let bf = back f rs us uf in
       subst (λ (x : Snapshot). Snaps s ds rs (Ok x) (store_core (core_snapshot x.dropped s.core) s) zs us) g.is (

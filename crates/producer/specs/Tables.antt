@@ -1,5 +1,5 @@
 -- What drains and the snapshot answer, and their steps.
-use Rattle.std.specs.Prelude.{◌≡◌, ℕ, min, List, length, take, Err, None, Ok, Option, Result, Some}
+use Rattle.std.specs.Prelude.{◌≡◌, ℕ, List, length, take, Err, None, Ok, Option, Result, Some}
 use Rattle.types.specs.declared.entry.OpSend.{OpSend}
 use Rattle.queue.specs.Queue as queue
 use Rattle.queue.specs.Queue.{Queue, Answer, refused, done}
@@ -47,10 +47,9 @@ abbrev pub gone_of : Option ℕ → Queue → List OpSend
 gone_of None q = q.pending
 gone_of (Some time) q = take (due_count time q.settings.delays.send_timeout q.pending) q.pending
 
--- how many of the entries, listed in es, a drain hands out
+-- how many of the entries a drain hands out
 abbrev pub plan_of : Option ℕ → List OpSend → ℕ → ProducerState → Result ℕ ProducerError
-plan_of due es room s =
-    handout_of (gone_count due s.core.settings.delays.send_timeout (take (min s.core.rings.pending.len 256) es)) room
+plan_of due es room s = handout_of (gone_count due s.core.settings.delays.send_timeout es) room
 
 abbrev pub drained_state : Option ℕ → List OpSend → ℕ → ProducerState → ProducerState
 drained_state due es count s =

@@ -1,29 +1,46 @@
-// The pending entries as one array.
-ghost use Rattle.std.specs.Prelude.{◌≡◌, min, take};
-ghost use Rattle.producer.specs.View.{view};
+// The pending entries.
+ghost use Rattle.std.specs.Prelude.{◌≡◌, slice_index_or};
+ghost use Rattle.tables.specs.Picked.{Lists};
+ghost use Rattle.producer.specs.View.{view, entry_of};
 
-use crate::settle::op_of;
 use crate::state::ProducerState;
-use rules::rings::Rings;
-use types::entry::OpSend;
+use rules::blank::no_entry;
+use tables::list::Listed;
+use types::entry::{OpSend, Publish};
+use types::types::SequenceId;
+
+fn op_of(id: u64, mark: u8, publish: Publish) -> OpSend
+    ensures { result ≡ entry_of id mark publish }
+{
+    OpSend {
+        sequence_id: SequenceId(id),
+        answerable: mark != 0,
+        publish,
+    }
+}
 
 impl ProducerState {
-    // The oldest first. What stands behind the last means nothing.
-    pub(crate) fn entries(&self) -> [OpSend; 256]
-        ensures { take (min self.now.core.rings.pending.len 256) result ≡ (view self.now).pending }
+    // The entry at a place from the oldest one.
+    pub(crate) fn op_at(&self, place: usize) -> OpSend
+        ensures { slice_index_or (view self.now).pending place result ≡ result }
     {
-        let head = self.core.rings.pending.head % 256;
-        let n = self.core.rings.pending.len.min(Rings::PENDING);
-        let any = self.op_at(0);
-        let mut all = [any; 256];
-        for i in 0..n {
-            let at = (head + i) % 256;
-            all[i] = op_of(
-                self.pending_ids[at],
-                self.pending_marks[at],
-                self.pending[at],
-            );
+        let at = self.core.rings.pending.slot(place);
+        op_of(
+            self.pending_ids[at],
+            self.pending_marks[at],
+            self.pending[at],
+        )
+    }
+
+    // The oldest first.
+    pub(crate) fn entries(&self) -> Listed<OpSend, 256>
+        ensures { Lists (view self.now).pending result }
+    {
+        let len = self.core.rings.pending.count();
+        let mut items = [no_entry(); 256];
+        for i in 0..len {
+            items[i] = self.op_at(i);
         }
-        all
+        Listed { items, len }
     }
 }

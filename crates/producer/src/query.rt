@@ -13,7 +13,7 @@ impl ProducerState {
     pub fn next_send_deadline(self) -> Option<u64>
         ensures { result ≡ next_send_deadline (view self) }
     {
-        let at = self.core.rings.pending.head % 256;
+        let at = self.core.rings.pending.slot(0);
         self.core.next_send_deadline(self.pending[at].enqueued_at)
     }
 

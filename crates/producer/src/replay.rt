@@ -88,9 +88,8 @@ impl ProducerState {
         ensures answer_value { (view result.state, told result.answer) ≡ replay_pending_outbound (view self) }
         ensures kept { Kept (told result.answer) self result.state }
     {
-        let answer = self.resend();
         Answered {
-            answer,
+            answer: self.resend(),
             state: self,
         }
     }
@@ -122,9 +121,8 @@ impl ProducerState {
     {
         let well_formed = all_well_formed(table);
         let entries = load(table);
-        let answer = self.replay(well_formed, entries, table.len());
         Answered {
-            answer,
+            answer: self.replay(well_formed, entries, table.len()),
             state: self,
         }
     }

@@ -26,9 +26,8 @@ impl ProducerState {
         ensures kept { Kept (told result.answer) self result.state }
     {
         let plan = self.core.set(s);
-        let answer = self.change(plan);
         Answered {
-            answer,
+            answer: self.change(plan),
             state: self,
         }
     }
@@ -38,9 +37,8 @@ impl ProducerState {
         ensures kept { Kept (told result.answer) self result.state }
     {
         let plan = self.core.set_name(name);
-        let answer = self.change(plan);
         Answered {
-            answer,
+            answer: self.change(plan),
             state: self,
         }
     }

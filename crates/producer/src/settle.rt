@@ -1,5 +1,5 @@
 // Receipts and errors (document 01, 'receipts, errors, snapshot, replay').
-ghost use Rattle.std.specs.Prelude.{◌≡◌, ◌<◌, min, map, length, slice_index_or};
+ghost use Rattle.std.specs.Prelude.{◌≡◌, ◌<◌, min, map};
 ghost use Rattle.laws.specs.Ring.{ring};
 ghost use Rattle.upkeep.specs.Pending.{keys, located};
 ghost use Rattle.laws.specs.Lists.{without};
@@ -7,26 +7,15 @@ ghost use Rattle.queue.specs.Queue.{with_pending};
 ghost use Rattle.queue.specs.Settle.{apply_receipt, apply_send_error};
 ghost use Rattle.queue.specs.Told.{told, Kept};
 ghost use Rattle.producer.specs.Settle.{GapClosed, Settles, key_of, unmarked};
-ghost use Rattle.producer.specs.View.{view, entry_of};
+ghost use Rattle.producer.specs.View.{view};
 
 use crate::answer::Answered;
 use crate::state::ProducerState;
-use rules::rings::Rings;
 use types::command::{CommandSendError, CommandSendReceipt};
-use types::entry::{OpSend, Publish};
+use types::entry::OpSend;
 use types::error::ProducerError;
-use types::types::{MessageId, SequenceId};
+use types::types::MessageId;
 use upkeep::pending::{Index, unmark};
-
-pub(crate) fn op_of(id: u64, mark: u8, publish: Publish) -> OpSend
-    ensures { result ≡ entry_of id mark publish }
-{
-    OpSend {
-        sequence_id: SequenceId(id),
-        answerable: mark != 0,
-        publish,
-    }
-}
 
 impl ProducerState {
     // The entries behind a place move up by one.
@@ -34,11 +23,10 @@ impl ProducerState {
         requires { place < min self.old.core.rings.pending.len 256 }
         ensures { GapClosed place self.old self.new }
     {
-        let head = self.core.rings.pending.head % 256;
-        let n = self.core.rings.pending.len.min(Rings::PENDING);
-        for i in place..n - 1 {
-            let from = (head + (i + 1)) % 256;
-            let to = (head + i) % 256;
+        let ring = self.core.rings.pending;
+        for i in place..ring.count() - 1 {
+            let from = ring.slot(i + 1);
+            let to = ring.slot(i);
             self.pending[to] = self.pending[from];
             self.pending_ids[to] = self.pending_ids[from];
             self.pending_marks[to] = self.pending_marks[from];
@@ -69,29 +57,15 @@ impl ProducerState {
         index.locate(id)
     }
 
-    pub(crate) fn op_at(&self, place: usize) -> OpSend
-        requires { place < 256 }
-        ensures { slice_index_or (view self.now).pending place result ≡ result }
-    {
-        let at = (self.core.rings.pending.head % 256 + place) % 256;
-        op_of(
-            self.pending_ids[at],
-            self.pending_marks[at],
-            self.pending[at],
-        )
-    }
-
     // The id leaves the index.
     fn unmark_all(&mut self, id: u64)
         ensures { self.new ≡ unmarked id self.old }
     {
-        let ids = self.pending_ids;
-        unmark(&mut self.pending_marks, ids, id);
+        unmark(&mut self.pending_marks, &self.pending_ids, id);
     }
 
     // The first entry that bears an answerable id leaves, and the id the index.
     fn settle(&mut self, id: u64) -> Result<OpSend, ProducerError>
-        requires { length self.old.pending_marks ≡ 256 }
         ensures { Settles id self.old result self.new }
     {
         let place = self.place_of(id).ok_or(ProducerError::NotAnswerable)?;
@@ -102,7 +76,6 @@ impl ProducerState {
     }
 
     fn receive(&mut self, receipt: CommandSendReceipt) -> Result<(OpSend, MessageId), ProducerError>
-        requires { length self.old.pending_marks ≡ 256 }
         ensures result_value { (view self.new, told result) ≡ apply_receipt receipt.sequence_id.0 receipt.message_id (view self.old) }
         ensures kept { Kept (told result) self.old self.new }
     {
@@ -113,7 +86,6 @@ impl ProducerState {
     }
 
     fn fail(&mut self, err: CommandSendError) -> Result<(OpSend, i32), ProducerError>
-        requires { length self.old.pending_marks ≡ 256 }
         ensures result_value { (view self.new, told result) ≡ apply_send_error err.sequence_id.0 err.error (view self.old) }
         ensures kept { Kept (told result) self.old self.new }
     {
@@ -126,9 +98,8 @@ impl ProducerState {
         ensures result_value { (view result.state, told result.answer) ≡ apply_receipt receipt.sequence_id.0 receipt.message_id (view self) }
         ensures kept { Kept (told result.answer) self result.state }
     {
-        let answer = self.receive(receipt);
         Answered {
-            answer,
+            answer: self.receive(receipt),
             state: self,
         }
     }
@@ -138,9 +109,8 @@ impl ProducerState {
         ensures result_value { (view result.state, told result.answer) ≡ apply_send_error err.sequence_id.0 err.error (view self) }
         ensures kept { Kept (told result.answer) self result.state }
     {
-        let answer = self.fail(err);
         Answered {
-            answer,
+            answer: self.fail(err),
             state: self,
         }
     }

@@ -32,10 +32,7 @@ impl ProducerState {
         let frame = FrameRecord {
             sequence_id: SequenceId(0),
             publish_time: 0,
-            producer_name: ProducerName {
-                bytes: [0; 64],
-                len: 0,
-            },
+            producer_name: ProducerName::empty(),
             uuid: [0; 16],
             message: no_message(),
             kind: FrameKind::Single,

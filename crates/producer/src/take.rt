@@ -50,9 +50,8 @@ impl ProducerState {
         ensures buffer_after { buffer.new ≡ written (told_frame store.now buffer.new result.answer) buffer.old }
         ensures kept { Kept (told_frame store.now buffer.new result.answer) self result.state }
     {
-        let answer = self.take_front(store, buffer);
         Answered {
-            answer,
+            answer: self.take_front(store, buffer),
             state: self,
         }
     }

@@ -26,6 +26,11 @@ keys_at (i ∷ is) [] k b e = absurd (omega arith)
 keys_at (i ∷ is) (m ∷ ms) zero b e = refl
 keys_at (i ∷ is) (m ∷ ms) (suc k) b e = keys_at is ms k (omega arith) (omega arith)
 
+pub length_cleared : (id : ℕ) (is ms : List ℕ) → length (cleared_all id is ms) ≡ length ms
+length_cleared id [] ms = refl
+length_cleared id (i ∷ is) [] = refl
+length_cleared id (i ∷ is) (m ∷ ms) = ap suc (length_cleared id is ms)
+
 pub none_cleared : (id : ℕ) (is : List ℕ) → cleared_all id is [] ≡ []
 none_cleared id [] = refl
 none_cleared id (i ∷ is) = refl

@@ -1,5 +1,7 @@
 -- `ProducerState::entries`: the array up to the count is the list of entries.
 use Rattle.std.proofs.Common.{arith}
+use Rattle.tables.proofs.Turns.{listed}
+use Rattle.producer.specs.View.{view}
 use Rattle.producer.proofs.Full.{Full}
 use Rattle.producer.proofs.Listed.{listing_step, listing_all}
 use Rattle.producer.proofs.state.ProducerState.entries.Goals as goal
@@ -10,10 +12,10 @@ loop-i-preserved c =
     let h = c.type_inv.self in
     let f : Full s = record { outbound = h.1.0.1.0.1; held = h.1.1.0.1.0.1; pending = h.1.1.1.0.1.0.1; ids = h.1.1.1.1.0.1.0.1; marks = h.1.1.1.1.1.0.1.0.1 } in
     let k = c.loop-i in
-    listing_step s f k.all k.i k.invariant _ _ (omega (arith, c.min-n.ensures)) c.op_of.ensures
+    listing_step s f k.items k.i k.invariant _ (omega (arith, c.count-len.ensures)) c.op_at.ensures
 
 pub returns : goal.returns
 returns c =
     let s = c.args.self.now in
     let k = c.loop-i in
-    listing_all s k.all k.i k.invariant (omega (arith, c.min-n.ensures))
+    listed (view s).pending _ (omega (arith, c.count-len.ensures, k.invariant.len)) (rw c.count-len.ensures (listing_all s k.items k.i k.invariant (omega (arith, c.count-len.ensures))))
