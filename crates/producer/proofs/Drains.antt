@@ -52,7 +52,7 @@ unfolding view
 timeout_is s = refl
 
 -- what is planned, against the view
-module _ (s : ProducerState) (f : Full s) (due : Option ℕ) (es : List OpSend) (e : es ≡ (view s).pending) where
+module _ (s : ProducerState) (due : Option ℕ) (es : List OpSend) (e : es ≡ (view s).pending) where
   planned_count : ℕ
   planned_count = gone_count due s.core.settings.delays.send_timeout es
 
@@ -147,18 +147,18 @@ left_view s f (Some time) es p e k =
 
 -- ── the call ──
 
-module _ (s : ProducerState) (f : Full s) (due : Option ℕ) (es : List OpSend) (e : es ≡ (view s).pending)
+module _ (s : ProducerState) (due : Option ℕ) (es : List OpSend) (e : es ≡ (view s).pending)
     (ys : List OpSend) where
   -- a plan that goes through, and one that does not
   record Fits (k : ℕ) : Type 0 where
-    plan : Plans s f due es e k
+    plan : Plans s due es e k
     room : k ≤ length ys
 
   fits : (k : ℕ) → plan_of due es (length ys) s ≡ Ok k → Fits k
   unfolding planned_count
   fits k p =
-      let both = ok_of (ltb (length ys) (planned_count s f due es e)) (planned_count s f due es e) k TooShort p in
-      subst Fits both.1 (record { plan = plans s f due es e; room = ltb-false (length ys) (planned_count s f due es e) both.0 })
+      let both = ok_of (ltb (length ys) (planned_count s due es e)) (planned_count s due es e) k TooShort p in
+      subst Fits both.1 (record { plan = plans s due es e; room = ltb-false (length ys) (planned_count s due es e) both.0 })
 
   pub plan_fits : (k : ℕ) → plan_of due es (length ys) s ≡ Ok k → (k ≤ length es) × (k ≤ length ys)
   plan_fits k p = let g = fits k p in (g.plan.few, g.room)
@@ -166,16 +166,16 @@ module _ (s : ProducerState) (f : Full s) (due : Option ℕ) (es : List OpSend) 
   pub drains_short : (x : ProducerError) → plan_of due es (length ys) s ≡ Err x → Drains due s ys (Err x) s ys
   unfolding planned_count
   drains_short x p =
-      let n : ℕ = planned_count s f due es e in
+      let n : ℕ = planned_count s due es e in
       let both = err_of (ltb (length ys) n) n TooShort x p in
       let gone : List OpSend = gone_of due (view s) in
-      let short : ltb (length ys) (length gone) ≡ true = ap (ltb (length ys)) (sym (plans s f due es e).many) ∙ both.0 in
+      let short : ltb (length ys) (length gone) ≡ true = ap (ltb (length ys)) (sym (plans s due es e).many) ∙ both.0 in
       subst (λ (y : ProducerError). Drains due s ys (Err y) s ys) both.1
       (sym (drain_is due (length ys) (view s) ∙ ap (λ (b : Bool). pick b (view s, refused 9 []) (left_of due (view s), done gone)) short), refl, refl)
 
-  pub drains_done : (k : ℕ) → plan_of due es (length ys) s ≡ Ok k → (zs : List OpSend) → zs ≡ table_after (take (length ys) (take k es)) ys
+  pub drains_done : Full s → (k : ℕ) → plan_of due es (length ys) s ≡ Ok k → (zs : List OpSend) → zs ≡ table_after (take (length ys) (take k es)) ys
       → Drains due s ys (Ok k) (drained_state due es k s) zs
-  drains_done k p zs z =
+  drains_done f k p zs z =
       let g = fits k p in
       let gone : List OpSend = gone_of due (view s) in
       let room : ltb (length ys) (length gone) ≡ false = le-ltb (length ys) (length gone) (omega (arith, g.plan.many, g.room)) in

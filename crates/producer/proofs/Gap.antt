@@ -1,5 +1,5 @@
 -- The loop that closes a gap in the pending entries: what is to leave stands at the loop's place. Assumes nothing.
-use Rattle.std.proofs.Common.{◌≡◌, ℕ, ◌+◌, ◌<◌, ◌≤◌, min, length, get_or, set, refl, ap, arith, lit<, length-set}
+use Rattle.std.proofs.Common.{◌≡◌, ℕ, ◌+◌, ◌<◌, ◌≤◌, min, length, get_or, set, refl, sym, ap, subst, arith, lit<, length-set}
 use Rattle.laws.specs.Ring.{slot}
 use Rattle.laws.proofs.Slots.{slot_below}
 use Rattle.laws.proofs.Loops.{Shift, shift_step, shift_end}
@@ -32,10 +32,8 @@ module _ (s₀ : ProducerState) (place : ℕ) where
       }
 
   -- one entry moves up
-  abbrev pub moved : ProducerState → ℕ → Publish → ProducerState
-  moved s i d =
-      let from = slot 256 s₀.core.rings.pending.head (i + 1) in
-      let to = slot 256 s₀.core.rings.pending.head i in
+  abbrev pub moved : ProducerState → ℕ → ℕ → Publish → ProducerState
+  moved s from to d =
       record {
         core = s.core;
         outbound = s.outbound;
@@ -45,8 +43,9 @@ module _ (s₀ : ProducerState) (place : ℕ) where
         pending_marks = set s.pending_marks to (get_or s.pending_marks from 0);
       }
 
-  pub moving_step : (s : ProducerState) (i : ℕ) (d : Publish) → Moving s i → i + 1 < min s₀.core.rings.pending.len 256 → Moving (moved s i d) (i + 1)
-  moving_step s i d m b =
+  at_slots : (s : ProducerState) (i : ℕ) (d : Publish) → Moving s i → i + 1 < min s₀.core.rings.pending.len 256
+      → Moving (moved s (slot 256 s₀.core.rings.pending.head (i + 1)) (slot 256 s₀.core.rings.pending.head i) d) (i + 1)
+  at_slots s i d m b =
       let h = s₀.core.rings.pending.head in
       let from = slot 256 h (i + 1) in
       let to = slot 256 h i in
@@ -59,7 +58,7 @@ module _ (s₀ : ProducerState) (place : ℕ) where
       let next : Shift 256 (slots_of s₀) h s₀.core.rings.pending.len place (set (slots_of s) to (get_or (slots_of s) from (entry_of 0 0 d))) (i + 1) =
       shift_step 256 pos (slots_of s₀) h s₀.core.rings.pending.len place (slots_of s) i (entry_of 0 0 d) m.shift b in
       record {
-        same = ap (λ (t : ProducerState). with_slots (moved s i d) t) m.same;
+        same = ap (λ (t : ProducerState). with_slots (moved s from to d) t) m.same;
         ids = simp length-set m.ids;
         marks = simp length-set m.marks;
         pending = simp length-set m.pending;
@@ -68,6 +67,13 @@ module _ (s₀ : ProducerState) (place : ℕ) where
             (entries_set is ms ps to (get_or is from 0) (get_or ms from 0) (get_or ps from d), ← entries_at is ms ps from d (entry_of 0 0 d) li lm lp)
             next;
       }
+
+  pub moving_step : (s : ProducerState) (i from to : ℕ) (d : Publish)
+      → from ≡ slot 256 s₀.core.rings.pending.head (i + 1) → to ≡ slot 256 s₀.core.rings.pending.head i
+      → Moving s i → i + 1 < min s₀.core.rings.pending.len 256 → Moving (moved s from to d) (i + 1)
+  moving_step s i from to d p q m b =
+      subst (λ (k : ℕ). Moving (moved s k to d) (i + 1)) (sym p)
+      (subst (λ (k : ℕ). Moving (moved s (slot 256 s₀.core.rings.pending.head (i + 1)) k d) (i + 1)) (sym q) (at_slots s i d m b))
 
   pub moving_end : (s : ProducerState) (i : ℕ) → Moving s i → min s₀.core.rings.pending.len 256 ≤ i + 1 → GapClosed place s₀ s
   moving_end s i m b =

@@ -28,6 +28,12 @@ pub few_ring : {A : Type 0} (cap : ℕ) (l : List A) (h n : ℕ) → length (rin
 unfolding ring
 few_ring cap l h n = omega (arith, length-take (min n cap) (drop (h % cap) (l ++ l)))
 
+-- no list of a state's pending entries is longer than their ring
+pub all_pending : (s : ProducerState) → take 256 (view s).pending ≡ (view s).pending
+unfolding view
+all_pending s =
+    take_all 256 (view s).pending (omega (arith, few_ring 256 (slots_of s) s.core.rings.pending.head s.core.rings.pending.len))
+
 -- all are listed
 pub listing_all : (s : ProducerState) (all : List OpSend) (i : ℕ) → Listing s all i → min s.core.rings.pending.len 256 ≤ i
     → take (min s.core.rings.pending.len 256) all ≡ (view s).pending

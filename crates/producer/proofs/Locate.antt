@@ -43,13 +43,11 @@ located_below id l i e = go (place_of (wanted id false) l) e
     go None q = absurd (let z : ◌≡◌ {A = ℕ} 0 1 = cc in omega arith)
 
 -- what is put together from the arrays at a place is the entry there
-pub entry_there : (s : ProducerState) → Full s → (place : ℕ) (d : Publish) (r : OpSend)
-    → r ≡ entry_of (get_or s.pending_ids (slot 256 s.core.rings.pending.head place) 0)
-    (get_or s.pending_marks (slot 256 s.core.rings.pending.head place) 0)
-    (get_or s.pending (slot 256 s.core.rings.pending.head place) d)
+pub entry_there : (s : ProducerState) → Full s → (place at : ℕ) → at ≡ slot 256 s.core.rings.pending.head place → (d : Publish) (r : OpSend)
+    → r ≡ entry_of (get_or s.pending_ids at 0) (get_or s.pending_marks at 0) (get_or s.pending at d)
     → get_or (view s).pending place r ≡ r
 unfolding view
-entry_there s f place d r e = go (dec_lt place (min n 256))
+entry_there s f place at q d r e = go (dec_lt place (min n 256))
   where
     h : ℕ
     h = s.core.rings.pending.head
@@ -57,11 +55,8 @@ entry_there s f place d r e = go (dec_lt place (min n 256))
     n : ℕ
     n = s.core.rings.pending.len
 
-    at : ℕ
-    at = slot 256 h place
-
     below : at < 256
-    below = slot_below 256 h place (lit< tt)
+    below = omega (arith, q, slot_below 256 h place (lit< tt))
 
     go : Dec (place < min n 256) → get_or (ring 256 (slots_of s) h n) place r ≡ r
     go (yes b) =
@@ -69,6 +64,7 @@ entry_there s f place d r e = go (dec_lt place (min n 256))
         let lm : at < length s.pending_marks = omega (arith, below, f.marks) in
         let lp : at < length s.pending = omega (arith, below, f.pending) in
         ring_at 256 (lit< tt) (slots_of s) (slots s f) r h n place b
+        ∙ ap (λ (k : ℕ). get_or (slots_of s) k r) (sym q)
         ∙ entries_at s.pending_ids s.pending_marks s.pending at d r li lm lp
         ∙ sym e
     go (no b) =

@@ -46,10 +46,10 @@ unfolding batch_deadline_elapsed
 batch_elapsed_lem s now = has_elapsed_lem now (batch_deadline_of s.core) ∙ ap (elapsed now) (batch_deadline_lem s)
 
 -- the front entry's deadline
-pub send_deadline_lem : (s : ProducerState) → Full s → (d : Publish)
-    → (send_deadline_of s.core (get_or s.pending (s.core.rings.pending.head % 256) d).enqueued_at) ≡ next_send_deadline (view s)
+pub send_deadline_lem : (s : ProducerState) → Full s → (at : ℕ) → at ≡ slot 256 s.core.rings.pending.head 0 → (d : Publish)
+    → (send_deadline_of s.core (get_or s.pending at d).enqueued_at) ≡ next_send_deadline (view s)
 unfolding next_send_deadline view
-send_deadline_lem s f d =
+send_deadline_lem s f at q d =
     num_unless n (maybe_after timeout sent)
     ∙ ap (λ (o : Option ℕ). pick (eqb n 0) None o) (num_after timeout sent)
     ∙ go (dec_lt 0 n)
@@ -64,18 +64,16 @@ send_deadline_lem s f d =
     timeout = s.core.settings.delays.send_timeout
 
     sent : ℕ
-    sent = (get_or s.pending (h % 256) d).enqueued_at
+    sent = (get_or s.pending at d).enqueued_at
 
     go : Dec (0 < n) → pick (eqb n 0) None (after timeout sent) ≡ front_deadline timeout (ring 256 (slots_of s) h n)
     go (yes b) =
-        let at = slot 256 h 0 in
-        let below = slot_below 256 h 0 (lit< tt) in
+        let below : at < 256 = omega (arith, q, slot_below 256 h 0 (lit< tt)) in
         let li : at < length s.pending_ids = omega (arith, below, f.ids) in
         let lm : at < length s.pending_marks = omega (arith, below, f.marks) in
         let lp : at < length s.pending = omega (arith, below, f.pending) in
         let entry =
-        entries_at s.pending_ids s.pending_marks s.pending at d blank li lm lp
-        ∙ ap (λ (k : ℕ). entry_of (get_or s.pending_ids at 0) (get_or s.pending_marks at 0) (get_or s.pending k d)) (slot_zero 256 h) in
+        ap (λ (k : ℕ). get_or (slots_of s) k blank) (sym q) ∙ entries_at s.pending_ids s.pending_marks s.pending at d blank li lm lp in
         pick_false None (after timeout sent) (ne_eqb n 0 (λ z. omega arith))
         ∙ sym
         (ap (front_deadline timeout) (ring_pop 256 (lit< tt) (slots_of s) (slots s f) blank h n (omega arith))

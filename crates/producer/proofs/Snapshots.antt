@@ -15,6 +15,8 @@ use Rattle.queue.specs.Settle.{table_after}
 use Rattle.queue.specs.Tables.{is_batched, batched_of, framed_of, failed, snapshot_pending_sends}
 use Rattle.queue.specs.Told.{Kept}
 use Rattle.tables.specs.Scalars.{core_snapshot}
+use Rattle.tables.specs.Picked.{kind_of, Lists}
+use Rattle.tables.specs.declared.list.Listed.{Listed}
 use Rattle.tables.specs.Snapshot.{snapshot_of}
 use Rattle.tables.specs.declared.snapshot.Snapshot.{Snapshot}
 use Rattle.producer.specs.Apply.{store_core}
@@ -115,6 +117,11 @@ module _ (s : ProducerState) (ds rs : List OpSend) where
 
   abbrev pub Planned : Result Snapshot ProducerError
   Planned = snapshot_of (length (batched_of (view s).pending)) (length (framed_of (view s).pending)) (length ds) (length rs)
+
+  -- the counts of the two lists are those that are planned with
+  pub planned_by : (x y : Listed OpSend 256) → Lists (kind_of true (view s).pending) x → Lists (kind_of false (view s).pending) y
+      → Planned ≡ snapshot_of x.len y.len (length ds) (length rs)
+  planned_by x y p q = sym (λ j. snapshot_of (p.many j) (q.many j) (length ds) (length rs))
 
   both_leb : (a b : Bool) → (a && b) ≡ true → (a ≡ true) × (b ≡ true)
   both_leb true true e = (refl, refl)

@@ -1,5 +1,5 @@
 // The pending entries.
-ghost use Rattle.std.specs.Prelude.{◌≡◌, slice_index_or};
+ghost use Rattle.std.specs.Prelude.{◌≡◌, length, slice_index_or};
 ghost use Rattle.tables.specs.Picked.{Lists};
 ghost use Rattle.producer.specs.View.{view, entry_of};
 
@@ -22,7 +22,8 @@ fn op_of(id: u64, mark: u8, publish: Publish) -> OpSend
 impl ProducerState {
     // The entry at a place from the oldest one.
     pub(crate) fn op_at(&self, place: usize) -> OpSend
-        ensures { slice_index_or (view self.now).pending place result ≡ result }
+        ensures marks { length self.now.pending_marks ≡ 256 }
+        ensures entry { slice_index_or (view self.now).pending place result ≡ result }
     {
         let at = self.core.rings.pending.slot(place);
         op_of(

@@ -1,5 +1,5 @@
 // Receipts and errors (document 01, 'receipts, errors, snapshot, replay').
-ghost use Rattle.std.specs.Prelude.{◌≡◌, ◌<◌, min, map};
+ghost use Rattle.std.specs.Prelude.{◌≡◌, ◌<◌, min, map, length};
 ghost use Rattle.laws.specs.Ring.{ring};
 ghost use Rattle.upkeep.specs.Pending.{keys, located};
 ghost use Rattle.laws.specs.Lists.{without};
@@ -47,7 +47,8 @@ impl ProducerState {
 
     // Where the first entry stands that bears the id, if the id is answerable.
     fn place_of(&self, id: u64) -> Option<usize>
-        ensures { result ≡ located id (ring 256 (keys self.now.pending_ids self.now.pending_marks) self.now.core.rings.pending.head self.now.core.rings.pending.len) }
+        ensures marks { length self.now.pending_marks ≡ 256 }
+        ensures place { result ≡ located id (ring 256 (keys self.now.pending_ids self.now.pending_marks) self.now.core.rings.pending.head self.now.core.rings.pending.len) }
     {
         let index = Index {
             ids: &self.pending_ids,

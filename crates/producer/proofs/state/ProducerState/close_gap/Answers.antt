@@ -13,10 +13,10 @@ pub loop-i-preserved : goal.loop-i-preserved
 loop-i-preserved c =
     let a = c.args in
     let k = c.loop-i in
-    moving_step a.self.now a.place k.self k.i _ k.invariant (omega (arith, c.min-n.ensures))
+    moving_step a.self.now a.place k.self k.i _ _ _ c.slot-from.ensures c.slot-to.ensures k.invariant (omega (arith, c.count-i-end.ensures))
 
 pub returns : goal.returns
 returns c =
     let a = c.args in
     let k = c.loop-i in
-    moving_end a.self.now a.place k.self k.i k.invariant (omega (arith, c.min-n.ensures))
+    moving_end a.self.now a.place k.self k.i k.invariant (omega (arith, c.count-i-end.ensures))

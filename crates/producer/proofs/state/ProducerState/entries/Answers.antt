@@ -9,10 +9,9 @@ use Rattle.producer.proofs.state.ProducerState.entries.Goals as goal
 pub loop-i-preserved : goal.loop-i-preserved
 loop-i-preserved c =
     let s = c.args.self.now in
-    let h = c.type_inv.self in
-    let f : Full s = record { outbound = h.1.0.1.0.1; held = h.1.1.0.1.0.1; pending = h.1.1.1.0.1.0.1; ids = h.1.1.1.1.0.1.0.1; marks = h.1.1.1.1.1.0.1.0.1 } in
+    let f : Full s = record { outbound = omega arith; held = omega arith; pending = omega arith; ids = omega arith; marks = c.op_at.ensures.marks } in
     let k = c.loop-i in
-    listing_step s f k.items k.i k.invariant _ (omega (arith, c.count-len.ensures)) c.op_at.ensures
+    listing_step s f k.items k.i k.invariant _ (omega (arith, c.count-len.ensures)) c.op_at.ensures.entry
 
 pub returns : goal.returns
 returns c =

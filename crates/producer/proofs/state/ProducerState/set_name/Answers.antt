@@ -16,5 +16,5 @@ returns c =
     let s = a.self in
     let both =
     subst (λ (r : ProducerState × Result (Unit {0}) ProducerError). Sets s r (set_name a.name.now (view s)))
-    (sym (c.change-answer.ensures ∙ ap (λ (k : Result Core ProducerError). changed_by k s) c.set_name-plan.ensures)) (names s a.name.now) in
+    (sym (c.change.ensures ∙ ap (λ (k : Result Core ProducerError). changed_by k s) c.set_name-plan.ensures)) (names s a.name.now) in
     record { answer_value = both.0; kept = both.1 }

@@ -20,48 +20,40 @@ use Rattle.producer.proofs.state.ProducerState.settle.Goals as goal
 record InRange (s : ProducerState) (i : ℕ) : Type 0 where
   listed : i < length (view s).pending
   entry : i < min s.core.rings.pending.len 256
-  small : i < 256
 
 in_range : (s : ProducerState) → Full s → (id : ℕ) (r : Option ℕ) → r ≡ located id (map key_of (view s).pending) → (i : ℕ) → r ≡ Some i → InRange s i
 in_range s f id r e i at =
     let b : i < length (map key_of (view s).pending) = located_below id (map key_of (view s).pending) i (sym e ∙ at) in
     let l : length (map key_of (view s).pending) ≡ length (view s).pending = length-map (view s).pending key_of in
     let m : length (view s).pending ≡ min s.core.rings.pending.len 256 = length_view s f in
-    record { listed = omega arith; entry = omega arith; small = omega arith }
+    record { listed = omega arith; entry = omega arith }
 
 -- what is searched are the keys of the pending entries
 placed : (s : ProducerState) → Full s → (id : ℕ) (r : Option ℕ) → r ≡ located id (ring 256 (keys s.pending_ids s.pending_marks) s.core.rings.pending.head s.core.rings.pending.len)
     → r ≡ located id (map key_of (view s).pending)
 placed s f id r e = e ∙ ap (located id) (sym (keys_view s f))
 
-pub op_at-op-requires : goal.op_at-op-requires
-op_at-op-requires c =
-    let s = c.args.self.now in
-    let f : Full s = record { outbound = omega arith; held = omega arith; pending = omega arith; ids = omega arith; marks = omega arith } in
-    let at = or_ok c.place_of.result NotAnswerable c.in_ok-place.place (sym c.ok_or.ensures.value ∙ c.in_ok-place.was) in
-    (in_range s f c.args.id c.place_of.result (placed s f c.args.id _ c.place_of.ensures) c.in_ok-place.place at).small
-
 pub remove-requires : goal.remove-requires
 remove-requires c =
     let s = c.args.self.now in
-    let f : Full s = record { outbound = omega arith; held = omega arith; pending = omega arith; ids = omega arith; marks = omega arith } in
+    let f : Full s = record { outbound = omega arith; held = omega arith; pending = omega arith; ids = omega arith; marks = c.place_of.ensures.marks } in
     let at = or_ok c.place_of.result NotAnswerable c.in_ok-place.place (sym c.ok_or.ensures.value ∙ c.in_ok-place.was) in
-    rw c.unmark_all.ensures (in_range s f c.args.id _ (placed s f c.args.id _ c.place_of.ensures) c.in_ok-place.place at).entry
+    rw c.unmark_all.ensures (in_range s f c.args.id _ (placed s f c.args.id _ c.place_of.ensures.place) c.in_ok-place.place at).entry
 
 pub returns : goal.returns
 returns c =
     let id = c.args.id in
     let s = c.args.self.now in
-    let f : Full s = record { outbound = omega arith; held = omega arith; pending = omega arith; ids = omega arith; marks = omega arith } in
+    let f : Full s = record { outbound = omega arith; held = omega arith; pending = omega arith; ids = omega arith; marks = c.place_of.ensures.marks } in
     let i = c.in_ok-place.place in
     let at = or_ok c.place_of.result NotAnswerable i (sym c.ok_or.ensures.value ∙ c.in_ok-place.was) in
-    let e = placed s f id _ c.place_of.ensures in
+    let e = placed s f id _ c.place_of.ensures.place in
     let b = in_range s f id _ e i at in
     subst (settles_at id s _ _) (sym at ∙ e) (
       c.op_at-op.result,
       b.listed,
       refl,
-      c.op_at-op.ensures,
+      c.op_at-op.ensures.entry,
       c.remove.ensures ∙ ap (λ (q : Queue). with_pending (without q.pending i) q) (ap view c.unmark_all.ensures ∙ unmarked_view id s),
     )
 
@@ -69,7 +61,7 @@ pub returns-in_err-place : goal.returns-in_err-place
 returns-in_err-place c =
     let id = c.args.id in
     let s = c.args.self.now in
-    let f : Full s = record { outbound = omega arith; held = omega arith; pending = omega arith; ids = omega arith; marks = omega arith } in
+    let f : Full s = record { outbound = omega arith; held = omega arith; pending = omega arith; ids = omega arith; marks = c.place_of.ensures.marks } in
     let none = or_err c.place_of.result NotAnswerable _ (sym c.ok_or.ensures.value ∙ c.in_err-place.was) in
     let p = err_from_is_err_and c.from_residual.result c.from_residual.ensures.1 in
-    rw (p.1, p.2) (subst (settles_at id s _ s) (sym none.0 ∙ placed s f id _ c.place_of.ensures) (ap Err (sym none.1), refl))
+    rw (p.1, p.2) (subst (settles_at id s _ s) (sym none.0 ∙ placed s f id _ c.place_of.ensures.place) (ap Err (sym none.1), refl))
