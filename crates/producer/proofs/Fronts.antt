@@ -1,36 +1,26 @@
 -- The loops of the replays: entries and their frames go to the front, the last first. Assumes nothing.
-use Rattle.std.specs.Prelude.{None}
-use Rattle.std.proofs.Common.{◌≡◌, ℕ, ◌+◌, ◌-◌, ◌%◌, ◌^◌, ◌<◌, ◌≤◌, Bool, true, false, not, List, [], ◌∷◌, map, length, get_or, take, drop, sym, refl, ap, ◌∙◌, mod-lt, arith, lit<}
+use Rattle.std.specs.Prelude.{None, Option, Some}
+use Rattle.std.proofs.Common.{◌≡◌, ℕ, ◌+◌, ◌^◌, ◌<◌, Bool, true, false, not, List, [], ◌∷◌, ◌++◌, map, length, sym, refl, ap, ◌∙◌, arith, lit<}
 use Rattle.laws.specs.Choice.{pick}
 use Rattle.laws.specs.Lists.{front, front_all}
 use Rattle.laws.specs.Numbers.{add_sat}
 use Rattle.laws.specs.Ring.{ring}
-use Rattle.laws.proofs.Gathers.{rest_next, rest_none}
 use Rattle.laws.proofs.Pushes.{ring_before}
 use Rattle.types.specs.declared.entry.OpSend.{OpSend}
 use Rattle.queue.specs.Queue.{Outgoing, Queue, with_out, with_pending}
 use Rattle.queue.specs.Tables.{is_batched, frames_of, framed_of, frames_for, again, fronted, mark}
 use Rattle.rules.specs.Rings.{place_before, longer_before}
-use Rattle.rules.specs.declared.rings.Ring.{Ring}
-use Rattle.plans.specs.Delta.{put_at}
 use Rattle.types.specs.declared.frame.FrameRecord.{FrameRecord}
+use Rattle.tables.specs.Again.{unless_batched}
 use Rattle.plans.specs.Replay.{fronted_core, fronted_entry}
 use Rattle.plans.specs.declared.delta.Pushed.{Pushed}
 use Rattle.plans.specs.declared.state.Core.{Core}
 use Rattle.producer.specs.View.{view, slots_of}
-use Rattle.producer.specs.Apply.{store_core, store_frame, store_entry, stored}
+use Rattle.producer.specs.Apply.{store_core, store_frame, store_entry}
 use Rattle.producer.specs.declared.state.ProducerState.{ProducerState}
 use Rattle.producer.proofs.Entries.{entries_put}
 use Rattle.producer.proofs.Stores.{stored_at}
-use Rattle.producer.proofs.Full.{Good, Full, slots, full_core, full_frame, full_entry}
-
--- a place worked out as a remainder is one of the ring
-pub in_ring : (cap k : ℕ) {x : ℕ} → 0 < cap → x ≡ k % cap → x < cap
-in_ring cap k p e = omega (arith, mod-lt k p)
-
--- the waiting count is a number of 64 bits
-pub waiting_fits : (s : ProducerState) → Good s → s.core.rings.waiting < 2 ^ 64
-waiting_fits s g = omega (arith, g.1.1.0.1.1.1.1.1.1.1.0)
+use Rattle.producer.proofs.Full.{Full, slots, full_core, full_frame, full_entry}
 
 -- ── frames ──
 
@@ -56,6 +46,13 @@ fronted_next op l o =
     go true = refl
     go false = refl
 
+-- the last entry's go first
+fronted_last : (l : List OpSend) (op : OpSend) (o : Outgoing) → fronted l (fronted_one op o) ≡ fronted (l ++ op ∷ []) o
+fronted_last [] op o =
+    let e : add_sat 0 (add_sat (frames_of op.publish.replay) o.waiting) ≡ add_sat (frames_of op.publish.replay) (add_sat 0 o.waiting) = omega arith in
+    (λ j. record { frames = (fronted_one op o).frames; waiting = e j; held = o.held; batch = o.batch }) ∙ fronted_next op [] o
+fronted_last (x ∷ l) op o = sym (fronted_next x l (fronted_one op o)) ∙ ap (fronted_one x) (fronted_last l op o) ∙ fronted_next x (l ++ op ∷ []) o
+
 fronted_none : (o : Outgoing) → o.waiting < 2 ^ 64 → o ≡ fronted [] o
 fronted_none o h =
     let e : o.waiting ≡ add_sat 0 o.waiting = omega arith in
@@ -63,91 +60,85 @@ fronted_none o h =
 
 -- the plan for one entry
 abbrev pub fronted_for : OpSend → Core → Pushed FrameRecord
-fronted_for op c = fronted_core (not (is_batched op.publish.replay)) (again op) (frames_of op.publish.replay) c
+fronted_for op c = fronted_core (unless_batched op.publish.replay (again op)) (frames_of op.publish.replay) c
 
 -- its store
 abbrev pub fronted_state : Pushed FrameRecord → ProducerState → ProducerState
 fronted_state p s = store_frame p.put (store_core p.core s)
 
--- the waiting frames with a record before the first, or not
-framed : (b : Bool) (r : Ring 1024) (a : List FrameRecord) → length a ≡ 1024 → (x : FrameRecord)
-    → ring 1024 (stored (λ (y : FrameRecord). y) (pick b (put_at (place_before 1024 r) x) None) a) (pick b (longer_before 1024 r) r).head
-    (pick b (longer_before 1024 r) r).len
-    ≡ pick b (front 1024 x (ring 1024 a r.head r.len)) (ring 1024 a r.head r.len)
-framed true r a len x =
-    ap (λ (l : List FrameRecord). ring 1024 l (longer_before 1024 r).head (longer_before 1024 r).len)
-    (stored_at (λ (y : FrameRecord). y) (place_before 1024 r) x a)
-    ∙ ring_before 1024 (lit< tt) a len r.head r.len x
-framed false r a len x = refl
+waits : (op : OpSend) (c : Core) → (fronted_for op c).core.rings.waiting ≡ add_sat (frames_of op.publish.replay) c.rings.waiting
+waits op c = go (is_batched op.publish.replay)
+  where
+    go : (b : Bool)
+        → (fronted_core (pick b None (Some (again op))) (frames_of op.publish.replay) c).core.rings.waiting
+        ≡ add_sat (frames_of op.publish.replay) c.rings.waiting
+    go true = refl
+    go false = refl
 
 module _ (s : ProducerState) (f : Full s) where
   fronts : (op : OpSend) → view (fronted_state (fronted_for op s.core) s) ≡ with_out (fronted_one op (view s).out) (view s)
   unfolding view
-  fronts op =
-      let c = s.core in
-      let k = c.rings in
-      let e = framed (not (is_batched op.publish.replay)) k.outbound s.outbound f.outbound (again op) in
-      λ j.
-      record {
-        handle = c.handle;
-        settings = c.settings;
-        ids = c.ids;
-        counters = c.counters;
-        pending = ring 256 (slots_of s) k.pending.head k.pending.len;
-        out = record {
-          frames = e j;
-          waiting = add_sat (frames_of op.publish.replay) k.waiting;
-          held = ring 512 s.held k.held.head k.held.len;
-          batch = c.batch;
-        };
-      }
+  fronts op = go (is_batched op.publish.replay)
+    where
+      go : (b : Bool)
+          → view (fronted_state (fronted_core (pick b None (Some (again op))) (frames_of op.publish.replay) s.core) s)
+          ≡ with_out (record {
+            frames = pick (not b) (front 1024 (again op) (view s).out.frames) (view s).out.frames;
+            waiting = add_sat (frames_of op.publish.replay) (view s).out.waiting;
+            held = (view s).out.held;
+            batch = (view s).out.batch;
+          }) (view s)
+      go true = refl
+      go false =
+          let k = s.core.rings in
+          let r = k.outbound in
+          let e =
+          ap (λ (l : List FrameRecord). ring 1024 l (longer_before 1024 r).head (longer_before 1024 r).len)
+          (stored_at (λ (y : FrameRecord). y) (place_before 1024 r) (again op) s.outbound)
+          ∙ ring_before 1024 (lit< tt) s.outbound f.outbound r.head r.len (again op) in
+          λ j.
+          with_out (record {
+            frames = e j;
+            waiting = add_sat (frames_of op.publish.replay) k.waiting;
+            held = (view s).out.held;
+            batch = (view s).out.batch;
+          }) (view s)
 
--- the frames of the first n entries from i on are at the front
-module _ (s₀ : ProducerState) (ops : List OpSend) (n : ℕ) where
-  pub record Fronting (s : ProducerState) (i : ℕ) : Type 0 where
+-- with the frames of the rest at the front too, those of all are
+module _ (s₀ : ProducerState) (ops : List OpSend) where
+  pub record Fronting (s : ProducerState) (rest : List OpSend) : Type 0 where
     pub full : Full s
-    pub room : n ≤ length ops
-    pub high : i ≤ n
-    pub done : view s ≡ with_out (fronted (drop i (take n ops)) (view s₀).out) (view s₀)
+    pub fits : s.core.rings.waiting < 2 ^ 64
+    pub left : with_out (fronted rest (view s).out) (view s) ≡ with_out (fronted ops (view s₀).out) (view s₀)
 
-  pub fronting_start : n ≤ length ops → Full s₀ → s₀.core.rings.waiting < 2 ^ 64 → Fronting s₀ n
-  unfolding view
-  fronting_start b f h =
-      record {
-        full = f;
-        room = b;
-        high = omega arith;
-        done =
-            ap (λ (o : Outgoing). with_out o (view s₀)) (fronted_none (view s₀).out h)
-            ∙ ap (λ (l : List OpSend). with_out (fronted l (view s₀).out) (view s₀)) (sym (rest_none ops n n b (omega arith)));
-      }
+  pub fronting_start : (rest : List OpSend) → Full s₀ → s₀.core.rings.waiting < 2 ^ 64 → rest ≡ ops → Fronting s₀ rest
+  fronting_start rest f h e = record { full = f; fits = h; left = ap (λ (l : List OpSend). with_out (fronted l (view s₀).out) (view s₀)) e }
 
-  pub fronting_step : (s : ProducerState) (i : ℕ) (d : OpSend) → Fronting s i → 0 < i
-      → (p : Pushed FrameRecord) → p ≡ fronted_for (get_or ops (i - 1) d) s.core → Fronting (fronted_state p s) (i - 1)
-  fronting_step s i d g h p e =
-      let hi : i ≤ n = g.high in
-      let op : OpSend = get_or ops (i - 1) d in
-      let o : Outgoing = (view s₀).out in
-      let k : i - 1 + 1 ≡ i = omega arith in
+  pub fronting_step : (s : ProducerState) (rest l : List OpSend) (op : OpSend) → Fronting s rest → rest ≡ l ++ op ∷ []
+      → (p : Pushed FrameRecord) → p ≡ fronted_for op s.core → Fronting (fronted_state p s) l
+  fronting_step s rest l op g r p e =
       record {
         full = full_frame (store_core p.core s) (full_core s g.full p.core) p.put;
-        room = g.room;
-        high = omega arith;
-        done =
-            ap (λ (q : Pushed FrameRecord). view (fronted_state q s)) e
-            ∙ fronts s g.full op
-            ∙ ap (λ (q : Queue). with_out (fronted_one op q.out) q) g.done
-            ∙ ap (λ (x : Outgoing). with_out x (view s₀)) (fronted_next op (drop i (take n ops)) o)
-            ∙ ap (λ (l : List OpSend). with_out (fronted l o) (view s₀))
-            (ap (λ (m : ℕ). op ∷ drop m (take n ops)) (sym k) ∙ sym (rest_next ops n (i - 1) d g.room (omega arith)));
+        fits = omega (arith, ap (λ (q : Pushed FrameRecord). q.core.rings.waiting) e ∙ waits op s.core);
+        left =
+            ap (λ (q : Queue). with_out (fronted l q.out) q) (ap (λ (q : Pushed FrameRecord). view (fronted_state q s)) e ∙ fronts s g.full op)
+            ∙ ap (λ (o : Outgoing). with_out o (view s)) (fronted_last l op (view s).out)
+            ∙ ap (λ (m : List OpSend). with_out (fronted m (view s).out) (view s)) (sym r)
+            ∙ g.left;
       }
 
-  pub fronting_end : (s : ProducerState) (i : ℕ) → Fronting s i → i ≤ 0 → view s ≡ with_out (fronted (take n ops) (view s₀).out) (view s₀)
-  fronting_end s i g h =
-      let z : i ≡ 0 = omega arith in
-      g.done ∙ ap (λ (m : ℕ). with_out (fronted (drop m (take n ops)) (view s₀).out) (view s₀)) z
+  pub fronting_end : (s : ProducerState) (rest : List OpSend) → Fronting s rest → length rest ≡ 0
+      → view s ≡ with_out (fronted ops (view s₀).out) (view s₀)
+  unfolding view
+  fronting_end s [] g z = ap (λ (o : Outgoing). with_out o (view s)) (fronted_none (view s).out g.fits) ∙ g.left
+  fronting_end s (x ∷ l) g z = absurd (omega arith)
 
 -- ── entries ──
+
+-- the last entry goes first
+front_last : (l : List OpSend) (op : OpSend) (p : List OpSend) → front_all 256 (map mark l) (front 256 (mark op) p) ≡ front_all 256 (map mark (l ++ op ∷ [])) p
+front_last [] op p = refl
+front_last (x ∷ l) op p = ap (front 256 (mark x)) (front_last l op p)
 
 abbrev pub entered : Pushed OpSend → ProducerState → ProducerState
 entered a s = store_entry a.put (store_core a.core s)
@@ -178,44 +169,30 @@ module _ (s : ProducerState) (f : Full s) where
         };
       }
 
--- the first n entries from i on are at the front
-module _ (s₀ : ProducerState) (ops : List OpSend) (n : ℕ) where
-  pub record Entering (s : ProducerState) (i : ℕ) : Type 0 where
+-- with the rest at the front too, all are
+module _ (s₀ : ProducerState) (ops : List OpSend) where
+  pub record Entering (s : ProducerState) (rest : List OpSend) : Type 0 where
     pub full : Full s
-    pub room : n ≤ length ops
-    pub high : i ≤ n
-    pub done : view s ≡ with_pending (front_all 256 (map mark (drop i (take n ops))) (view s₀).pending) (view s₀)
+    pub left : with_pending (front_all 256 (map mark rest) (view s).pending) (view s) ≡ with_pending (front_all 256 (map mark ops) (view s₀).pending) (view s₀)
 
-  pub entering_start : n ≤ length ops → Full s₀ → Entering s₀ n
-  unfolding view
-  entering_start b f =
-      record {
-        full = f;
-        room = b;
-        high = omega arith;
-        done = ap (λ (l : List OpSend). with_pending (front_all 256 (map mark l) (view s₀).pending) (view s₀)) (sym (rest_none ops n n b (omega arith)));
-      }
+  pub entering_start : (rest : List OpSend) → Full s₀ → rest ≡ ops → Entering s₀ rest
+  entering_start rest f e =
+      record { full = f; left = ap (λ (l : List OpSend). with_pending (front_all 256 (map mark l) (view s₀).pending) (view s₀)) e }
 
-  pub entering_step : (s : ProducerState) (i : ℕ) (d : OpSend) → Entering s i → 0 < i
-      → (a : Pushed OpSend) → a ≡ fronted_entry (get_or ops (i - 1) d) s.core → Entering (entered a s) (i - 1)
-  entering_step s i d g h a e =
-      let hi : i ≤ n = g.high in
-      let op : OpSend = get_or ops (i - 1) d in
-      let k : i - 1 + 1 ≡ i = omega arith in
+  pub entering_step : (s : ProducerState) (rest l : List OpSend) (op : OpSend) → Entering s rest → rest ≡ l ++ op ∷ []
+      → (a : Pushed OpSend) → a ≡ fronted_entry op s.core → Entering (entered a s) l
+  entering_step s rest l op g r a e =
       record {
         full = full_entry (store_core a.core s) (full_core s g.full a.core) a.put;
-        room = g.room;
-        high = omega arith;
-        done =
-            ap (λ (q : Pushed OpSend). view (entered q s)) e
-            ∙ enters s g.full op
-            ∙ ap (λ (q : Queue). with_pending (front 256 (mark op) q.pending) q) g.done
-            ∙ ap (λ (l : List OpSend). with_pending (front_all 256 (map mark l) (view s₀).pending) (view s₀))
-            (ap (λ (m : ℕ). op ∷ drop m (take n ops)) (sym k) ∙ sym (rest_next ops n (i - 1) d g.room (omega arith)));
+        left =
+            ap (λ (q : Queue). with_pending (front_all 256 (map mark l) q.pending) q)
+            (ap (λ (q : Pushed OpSend). view (entered q s)) e ∙ enters s g.full op)
+            ∙ ap (λ (p : List OpSend). with_pending p (view s)) (front_last l op (view s).pending)
+            ∙ ap (λ (m : List OpSend). with_pending (front_all 256 (map mark m) (view s).pending) (view s)) (sym r)
+            ∙ g.left;
       }
 
-  pub entering_end : (s : ProducerState) (i : ℕ) → Entering s i → i ≤ 0
-      → view s ≡ with_pending (front_all 256 (map mark (take n ops)) (view s₀).pending) (view s₀)
-  entering_end s i g h =
-      let z : i ≡ 0 = omega arith in
-      g.done ∙ ap (λ (m : ℕ). with_pending (front_all 256 (map mark (drop m (take n ops))) (view s₀).pending) (view s₀)) z
+  pub entering_end : (s : ProducerState) (rest : List OpSend) → Entering s rest → length rest ≡ 0
+      → view s ≡ with_pending (front_all 256 (map mark ops) (view s₀).pending) (view s₀)
+  entering_end s [] g z = g.left
+  entering_end s (x ∷ l) g z = absurd (omega arith)

@@ -1,25 +1,31 @@
--- `ProducerState::front_entries`: the entries from the loop's place on are at the front.
-use Rattle.std.proofs.Common.{◌-◌, subst, sym, arith}
+-- `ProducerState::front_entries`: the entries that the loop has yet to reach are still to go to the front.
+use Rattle.std.proofs.Common.{subst, sym, ap, ◌∙◌, arith}
+use Rattle.std.specs.declared.iter.Rev.{Rev}
+use Rattle.std.specs.declared.slice.Iter.{Iter}
+use Rattle.types.specs.declared.entry.OpSend.{OpSend}
 use Rattle.producer.specs.declared.state.ProducerState.{ProducerState}
 use Rattle.producer.proofs.Full.{Full}
 use Rattle.producer.proofs.Fronts.{Entering, entering_start, entering_step, entering_end}
 use Rattle.producer.proofs.state.ProducerState.front_entries.Goals as goal
 
-pub loop-i-init : goal.loop-i-init
-loop-i-init c =
+pub loop-op-init : goal.loop-op-init
+loop-op-init c =
     let s = c.args.self.now in
     let f : Full s = record { outbound = omega arith; held = omega arith; pending = omega arith; ids = omega arith; marks = omega arith } in
-    entering_start s c.args.ops c.args.n (omega arith) f
+    let e = ap (λ (r : Rev (Iter OpSend)). r.iter.rest.now) c.into_iter-op-iterator.ensures.into_iter_gives
+    ∙ ap (λ (i : Iter OpSend). i.rest.now) c.rev-op-items.ensures.source ∙ c.iter.ensures.rest in
+    entering_start s c.args.ops.now _ f e
 
-pub loop-i-preserved : goal.loop-i-preserved
-loop-i-preserved c =
+pub loop-op-preserved : goal.loop-op-preserved
+loop-op-preserved c =
     let a = c.args in
-    let k = c.loop-i in
-    subst (λ (t : ProducerState). Entering a.self.now a.ops a.n t (k.i - 1)) (sym c.store_entry.ensures)
-    (entering_step a.self.now a.ops a.n k.self k.i _ k.invariant (omega arith) c.front_entry-p.result c.front_entry-p.ensures)
+    let k = c.loop-op in
+    let rest = c.next.new.self.iter.rest.now in
+    subst (λ (t : ProducerState). Entering a.self.now a.ops.now t rest) (sym c.store_entry.ensures)
+    (entering_step a.self.now a.ops.now k.self _ rest c.in-Some.op.now k.invariant c.in-Some.ensures.steps c.front_entry-p.result c.front_entry-p.ensures)
 
 pub returns : goal.returns
 returns c =
     let a = c.args in
-    let k = c.loop-i in
-    entering_end a.self.now a.ops a.n k.self k.i k.invariant (omega arith)
+    let k = c.loop-op in
+    entering_end a.self.now a.ops.now k.self _ k.invariant c.in-None.ensures.steps.0

@@ -1,27 +1,33 @@
--- `ProducerState::front_frames`: the frames of the entries from the loop's place on are at the front.
-use Rattle.std.proofs.Common.{◌-◌, not, ◌∙◌, subst, sym, arith}
+-- `ProducerState::front_frames`: the frames of the entries that the loop has yet to reach are still to go to the front.
+use Rattle.std.proofs.Common.{subst, sym, ap, ◌∙◌, arith}
+use Rattle.std.specs.declared.iter.Rev.{Rev}
+use Rattle.std.specs.declared.slice.Iter.{Iter}
+use Rattle.types.specs.declared.entry.OpSend.{OpSend}
 use Rattle.plans.specs.Replay.{fronted_core}
 use Rattle.producer.specs.declared.state.ProducerState.{ProducerState}
 use Rattle.producer.proofs.Full.{Full}
 use Rattle.producer.proofs.Fronts.{Fronting, fronting_start, fronting_step, fronting_end}
 use Rattle.producer.proofs.state.ProducerState.front_frames.Goals as goal
 
-pub loop-i-init : goal.loop-i-init
-loop-i-init c =
+pub loop-op-init : goal.loop-op-init
+loop-op-init c =
     let s = c.args.self.now in
     let f : Full s = record { outbound = omega arith; held = omega arith; pending = omega arith; ids = omega arith; marks = omega arith } in
-    fronting_start s c.args.ops c.args.n (omega arith) f c.requires.1
+    let e = ap (λ (r : Rev (Iter OpSend)). r.iter.rest.now) c.into_iter-op-iterator.ensures.into_iter_gives
+    ∙ ap (λ (i : Iter OpSend). i.rest.now) c.rev-op-items.ensures.source ∙ c.iter.ensures.rest in
+    fronting_start s c.args.ops.now _ f c.requires e
 
-pub loop-i-preserved : goal.loop-i-preserved
-loop-i-preserved c =
+pub loop-op-preserved : goal.loop-op-preserved
+loop-op-preserved c =
     let a = c.args in
-    let k = c.loop-i in
-    let planned = c.front-p.ensures ∙ (λ j. fronted_core (not (c.is_batched.ensures j)) (c.again.ensures j) (c.frames_of.ensures j) k.self.core) in
-    subst (λ (t : ProducerState). Fronting a.self.now a.ops a.n t (k.i - 1)) (sym c.store_frame.ensures)
-    (fronting_step a.self.now a.ops a.n k.self k.i _ k.invariant (omega arith) c.front-p.result planned)
+    let k = c.loop-op in
+    let rest = c.next.new.self.iter.rest.now in
+    let planned = c.front-p.ensures ∙ (λ j. fronted_core (c.again.ensures j) (c.frames_of.ensures j) k.self.core) in
+    subst (λ (t : ProducerState). Fronting a.self.now a.ops.now t rest) (sym c.store_frame.ensures)
+    (fronting_step a.self.now a.ops.now k.self _ rest c.in-Some.op.now k.invariant c.in-Some.ensures.steps c.front-p.result planned)
 
 pub returns : goal.returns
 returns c =
     let a = c.args in
-    let k = c.loop-i in
-    fronting_end a.self.now a.ops a.n k.self k.i k.invariant (omega arith)
+    let k = c.loop-op in
+    fronting_end a.self.now a.ops.now k.self _ k.invariant c.in-None.ensures.steps.0

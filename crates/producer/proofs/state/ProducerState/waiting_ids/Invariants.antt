@@ -3,4 +3,4 @@ use Rattle.producer.proofs.Borne.{Naming}
 use Rattle.producer.proofs.state.ProducerState.waiting_ids.Given as goal
 
 abbrev pub invariant-loop-i : goal.invariant-loop-i
-invariant-loop-i l = Naming l.self l.ids l.i
+invariant-loop-i l = Naming l.self l.items l.i
