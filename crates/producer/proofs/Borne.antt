@@ -12,7 +12,6 @@ use Rattle.tables.specs.Unborne.{borne_by, free}
 use Rattle.producer.specs.Replay.{frame_id}
 use Rattle.producer.specs.View.{view}
 use Rattle.producer.specs.declared.state.ProducerState.{ProducerState}
-use Rattle.producer.proofs.Full.{Full}
 use Rattle.producer.proofs.Listed.{take_copied, few_ring}
 
 -- the definition's test, by ids
@@ -54,12 +53,12 @@ naming_all s ids i l b =
     let k : min s.core.rings.outbound.len 1024 ≡ i = omega (arith, l.low) in
     ap (λ (j : ℕ). take j ids) k ∙ l.same ∙ take_all i (map frame_id (view s).out.frames) (omega arith)
 
-module _ (s : ProducerState) (f : Full s) (ids : List ℕ) where
+module _ (s : ProducerState) (full : length s.outbound ≡ 1024) (ids : List ℕ) where
   length_names : length (map frame_id (view s).out.frames) ≡ min s.core.rings.outbound.len 1024
   unfolding view
   length_names =
       length-map (ring 1024 s.outbound s.core.rings.outbound.head s.core.rings.outbound.len) frame_id
-      ∙ length_ring 1024 (lit< tt) s.outbound f.outbound s.core.rings.outbound.head s.core.rings.outbound.len
+      ∙ length_ring 1024 (lit< tt) s.outbound full s.core.rings.outbound.head s.core.rings.outbound.len
 
   name_there : (i : ℕ) (d : FrameRecord) → i < min s.core.rings.outbound.len 1024
       → get_or (map frame_id (view s).out.frames) i (frame_id d) ≡ frame_id (get_or s.outbound (slot 1024 s.core.rings.outbound.head i) d)
@@ -68,7 +67,7 @@ module _ (s : ProducerState) (f : Full s) (ids : List ℕ) where
       let h = s.core.rings.outbound.head in
       let n = s.core.rings.outbound.len in
       get_or-map frame_id (ring 1024 s.outbound h n) i d
-      ∙ ap frame_id (ring_at 1024 (lit< tt) s.outbound f.outbound d h n i b)
+      ∙ ap frame_id (ring_at 1024 (lit< tt) s.outbound full d h n i b)
 
   pub naming_start : length ids ≡ 1024 → Naming s ids 0
   naming_start e = record { len = e; low = zero-le; same = refl }
