@@ -1,41 +1,32 @@
--- `ProducerState::resend`: the entries found are the definition's, and their frames go to the front unless 4 refuses.
-use Rattle.std.proofs.Common.{ℕ, List, take, refl, ap, ◌∙◌}
-use Rattle.std.specs.Prelude.{Err, Ok}
+-- `ProducerState::resend`: the entries chosen are the definition's, and their frames go to the front unless 4 refuses.
+use Rattle.std.proofs.Common.{ℕ, List, ap, ◌∙◌}
+use Rattle.std.specs.Prelude.{Err, Ok, Result}
 use Rattle.std.proofs.lemmas.Result.{err_from_is_err_and}
+use Rattle.laws.specs.Numbers.{add_sat}
 use Rattle.types.specs.declared.entry.OpSend.{OpSend}
+use Rattle.types.specs.declared.error.ProducerError.{ProducerError}
+use Rattle.queue.specs.Queue.{Queue, done, with_out}
+use Rattle.queue.specs.Tables.{frames_for, fronted}
 use Rattle.plans.specs.Replay.{replay_count}
-use Rattle.producer.proofs.Replays.{found, counts, counts_not}
+use Rattle.producer.specs.View.{view}
+use Rattle.producer.proofs.Replays.{ends_as, left, found, counts}
 use Rattle.producer.proofs.state.ProducerState.resend.Goals as goal
 
-pub returns : goal.returns
-returns c =
+pub returns-clause-answer_value : goal.returns-clause-answer_value
+returns-clause-answer_value c =
     let s = c.args.self.now in
-    let u = c.unborne-left in
-    let ops = c.entries-ops in
-    let ids = c.waiting_ids-ids in
-    let n = c.min-n in
-    let m = c.min-m in
-    let l : List OpSend = take u.result.len u.result.entries in
-    let e =
-    found s ids.result ops.result l m.result n.result (ap (λ (k : ℕ). take k ids.result) m.ensures ∙ ids.ensures)
-    (ap (λ (k : ℕ). take k ops.result) n.ensures ∙ ops.ensures) u.ensures.0 in
-    let p = c.in_ok-count.ensures ∙ ap (λ (k : ℕ). replay_count k s.core) c.frames_for.ensures in
-    let both = counts s c.front_frames.new.self l (Ok c.in_ok-count.count) e p _ refl c.front_frames.ensures in
-    record { answer_value = both.0; kept = tt }
+    let e = found s _ _ _ (c.as_slice-2.ensures ∙ c.waiting_ids-ids.ensures.same) (c.as_slice.ensures ∙ c.entries-pending.ensures.same) c.picked-left.ensures.same in
+    let planned = c.in_ok-count.ensures ∙ ap (λ (k : ℕ). replay_count k s.core) (c.frames_for.ensures ∙ ap (λ (l : List OpSend). add_sat 0 (frames_for l)) (c.as_slice-3.ensures ∙ e)) in
+    let stored = c.front_frames.ensures ∙ ap (λ (l : List OpSend). with_out (fronted l (view s).out) (view s)) (c.as_slice-4.ensures ∙ e) in
+    ap (λ (q : Queue). (q, done c.in_ok-count.count)) stored
+    ∙ ap (λ (r : Result ℕ ProducerError). ends_as r (view s) (with_out (fronted (left s) (view s).out) (view s))) planned
+    ∙ counts s
 
-pub returns-in_err-count : goal.returns-in_err-count
-returns-in_err-count c =
+pub returns-in_err-count-clause-answer_value : goal.returns-in_err-count-clause-answer_value
+returns-in_err-count-clause-answer_value c =
     let s = c.args.self.now in
-    let u = c.unborne-left in
-    let ops = c.entries-ops in
-    let ids = c.waiting_ids-ids in
-    let n = c.min-n in
-    let m = c.min-m in
-    let l : List OpSend = take u.result.len u.result.entries in
-    let e =
-    found s ids.result ops.result l m.result n.result (ap (λ (k : ℕ). take k ids.result) m.ensures ∙ ids.ensures)
-    (ap (λ (k : ℕ). take k ops.result) n.ensures ∙ ops.ensures) u.ensures.0 in
-    let q = c.in_err-count.ensures ∙ ap (λ (k : ℕ). replay_count k s.core) c.frames_for.ensures in
-    let both = counts_not s l (Err c.in_err-count.field-0.0) e q _ refl in
+    let e = found s _ _ _ (c.as_slice-2.ensures ∙ c.waiting_ids-ids.ensures.same) (c.as_slice.ensures ∙ c.entries-pending.ensures.same) c.picked-left.ensures.same in
+    let planned = c.in_err-count.ensures ∙ ap (λ (k : ℕ). replay_count k s.core) (c.frames_for.ensures ∙ ap (λ (l : List OpSend). add_sat 0 (frames_for l)) (c.as_slice-3.ensures ∙ e)) in
     let p = err_from_is_err_and c.from_residual.result c.from_residual.ensures.1 in
-    record { answer_value = rw (p.1, p.2) both.0; kept = rw p.1 both.1 }
+    rw (p.1, p.2)
+    (ap (λ (r : Result ℕ ProducerError). ends_as r (view s) (with_out (fronted (left s) (view s).out) (view s))) planned ∙ counts s)
