@@ -8,7 +8,6 @@ pub mod Fronts
 pub mod Full
 pub mod Gap
 pub mod Listed
-pub mod Loads
 pub mod Locate
 pub mod Marks
 pub mod Plans

@@ -1,6 +1,6 @@
 -- The replays: what is planned and stored makes the queue and the answer of the definitions. Assumes nothing.
 use Rattle.std.specs.Prelude.{Err, Ok, Result}
-use Rattle.std.proofs.Common.{◌≡◌, ℕ, ◌+◌, ◌<◌, ◌≤◌, min, Bool, true, false, not, ltb, List, ◌++◌, map, length, take, sym, refl, ap, ◌∙◌, arith, take_all, ltb-false, lt-ltb}
+use Rattle.std.proofs.Common.{◌≡◌, ℕ, ◌+◌, ◌^◌, ◌<◌, ◌≤◌, min, Bool, true, false, not, ltb, List, ◌++◌, map, length, take, sym, refl, ap, ◌∙◌, arith, take_all, ltb-false, lt-ltb}
 use native.Mathlib.Decide.{dec_lt}
 use lib.ListN.{length-map}
 use Rattle.laws.specs.Choice.{pick}
@@ -101,10 +101,10 @@ module _ (s : ProducerState) where
   chosen b1 b2 b3 = pick b1 (Err MalformedEntry) (pick b2 (Err PendingFull) (pick b3 (Err OutboundFull) (Ok tt)))
 
   -- where nothing refuses, few frames wait
-  pub waiting_few : (b : Bool) (n k : ℕ) (x : Unit {0}) → Ok x ≡ replay_answer b n k s.core → s.core.rings.waiting < 2 ^ 64
-  waiting_few b n k x is = go (not b) (ltb 256 (n + min s.core.rings.pending.len 256)) (ltb 1024 (s.core.rings.waiting + k)) refl is
+  pub waiting_few : (b : Bool) (n k : ℕ) → Ok tt ≡ replay_answer b n k s.core → s.core.rings.waiting < 2 ^ 64
+  waiting_few b n k is = go (not b) (ltb 256 (n + min s.core.rings.pending.len 256)) (ltb 1024 (s.core.rings.waiting + k)) refl is
     where
-      go : (b1 b2 b3 : Bool) → ltb 1024 (s.core.rings.waiting + k) ≡ b3 → Ok x ≡ chosen b1 b2 b3 → s.core.rings.waiting < 2 ^ 64
+      go : (b1 b2 b3 : Bool) → ltb 1024 (s.core.rings.waiting + k) ≡ b3 → Ok tt ≡ chosen b1 b2 b3 → s.core.rings.waiting < 2 ^ 64
       go true b2 b3 e h = differ (cc)
       go false true b3 e h = differ (cc)
       go false false true e h = differ (cc)
