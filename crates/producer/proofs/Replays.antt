@@ -1,6 +1,6 @@
 -- The replays: what is planned and stored makes the queue and the answer of the definitions. Assumes nothing.
 use Rattle.std.specs.Prelude.{Err, Ok, Result}
-use Rattle.std.proofs.Common.{◌≡◌, ℕ, ◌+◌, ◌^◌, ◌<◌, ◌≤◌, min, Bool, true, false, not, ltb, List, ◌++◌, map, length, take, sym, refl, ap, ◌∙◌, arith, take_all, ltb-false, lt-ltb}
+use Rattle.std.proofs.Common.{◌≡◌, ℕ, ◌+◌, ◌^◌, ◌<◌, ◌≤◌, min, Bool, true, false, not, ltb, List, ◌++◌, map, length, take, sym, refl, ap, ◌∙◌, arith, ltb-false, lt-ltb}
 use native.Mathlib.Decide.{dec_lt}
 use lib.ListN.{length-map}
 use Rattle.laws.specs.Choice.{pick}
@@ -110,32 +110,20 @@ module _ (s : ProducerState) where
       go false false true e h = differ (cc)
       go false false false e h = omega (arith, ltb-false 1024 (s.core.rings.waiting + k) e)
 
-  -- frames and what is stored matter only where neither 12 nor 7 refuses
-  by_tests : (b1 b2 b3 b3' : Bool) (a a' : Queue) → (b2 ≡ false → (b3 ≡ b3') × (a ≡ a'))
-      → ends_as (chosen b1 b2 b3) (view s) a ≡ pick b1 (refuse 12 (view s)) (pick b2 (refuse 7 (view s)) (pick b3' (refuse 4 (view s)) (a', done tt)))
-  by_tests true b2 b3 b3' a a' h = refl
-  by_tests false true b3 b3' a a' h = refl
-  by_tests false false b3 b3' a a' h = ap (λ (b : Bool). ends_as (chosen false false b) (view s) a) (h refl).0 ∙ last b3'
-    where
-      last : (b : Bool) → ends_as (chosen false false b) (view s) a ≡ pick b (refuse 4 (view s)) (a', done tt)
-      last true = refl
-      last false = λ j. ((h refl).1 j, done tt)
+  -- what is stored matters only where neither 12 nor 7 refuses
+  by_tests : (b1 b2 b3 : Bool) (a a' : Queue) → (b2 ≡ false → a ≡ a')
+      → ends_as (chosen b1 b2 b3) (view s) a ≡ pick b1 (refuse 12 (view s)) (pick b2 (refuse 7 (view s)) (pick b3 (refuse 4 (view s)) (a', done tt)))
+  by_tests true b2 b3 a a' h = refl
+  by_tests false true b3 a a' h = refl
+  by_tests false false true a a' h = refl
+  by_tests false false false a a' h = λ j. (h refl j, done tt)
 
-  pub replays : Full s → (l : List OpSend) (n : ℕ) → n ≡ min (length l) 256
-      → ends_as (replay_answer (all_well_formed l) (length l) (add_sat 0 (frames_for (take n l))) s.core) (view s) (replayed (take n l))
-      ≡ replay_snapshots l (view s)
+  pub replays : Full s → (l : List OpSend)
+      → ends_as (replay_answer (all_well_formed l) (length l) (add_sat 0 (frames_for l)) s.core) (view s) (replayed l) ≡ replay_snapshots l (view s)
   unfolding view replay_snapshots
-  replays f l n e =
-      let w = s.core.rings.waiting in
-      let first = take n l in
+  replays f l =
       (λ j.
-      ends_as (chosen (not (all_well_formed l)) (ltb 256 (length l + sym (pending_length s f) j)) (sat_test w (frames_for first) j)) (view s) (replayed first))
-      ∙ by_tests (not (all_well_formed l)) (ltb 256 (length l + length (view s).pending)) (ltb 1024 (w + frames_for first))
-      (ltb 1024 (w + frames_for l)) (replayed first) (marked l) same
-    where
-      same : ltb 256 (length l + length (view s).pending) ≡ false
-          → (ltb 1024 (s.core.rings.waiting + frames_for (take n l)) ≡ ltb 1024 (s.core.rings.waiting + frames_for l)) × (replayed (take n l) ≡ marked l)
-      same h =
-          let b : length l + length (view s).pending ≤ 256 = ltb-false 256 (length l + length (view s).pending) h in
-          let whole : take n l ≡ l = take_all n l (omega (arith, e)) in
-          (ap (λ (m : List OpSend). ltb 1024 (s.core.rings.waiting + frames_for m)) whole, ap replayed whole ∙ in_room l b)
+      ends_as (chosen (not (all_well_formed l)) (ltb 256 (length l + sym (pending_length s f) j)) (sat_test s.core.rings.waiting (frames_for l) j)) (view s)
+      (replayed l))
+      ∙ by_tests (not (all_well_formed l)) (ltb 256 (length l + length (view s).pending)) (ltb 1024 (s.core.rings.waiting + frames_for l)) (replayed l)
+      (marked l) (λ e. in_room l (ltb-false 256 (length l + length (view s).pending) e))

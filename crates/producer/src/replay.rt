@@ -55,7 +55,7 @@ impl ProducerState {
     {
         let ring = self.core.rings.outbound;
         let len = ring.count();
-        let mut items: [u64; 1024] = [0; 1024];
+        let mut items = [0; 1024];
         for i in 0..len {
             items[i] = self.outbound[ring.slot(i)].sequence_id.0;
         }
@@ -94,12 +94,11 @@ impl ProducerState {
         ensures answer_value { (view self.new, told result) ≡ replay_snapshots table.now (view self.old) }
         ensures kept { Kept (told result) self.old self.new }
     {
-        let first = &table[..table.len().min(256)];
         self.core
-            .replay_answer(all_well_formed(table), table.len(), frames_for(first))?;
+            .replay_answer(all_well_formed(table), table.len(), frames_for(table))?;
         self.mark_all();
-        self.front_entries(first);
-        self.front_frames(first);
+        self.front_entries(table);
+        self.front_frames(table);
         Ok(())
     }
 
