@@ -1,5 +1,6 @@
 -- The ids of the waiting frames, and the entries that none of them bears. Assumes nothing.
-use Rattle.std.proofs.Common.{◌≡◌, ℕ, zero, suc, ◌+◌, ◌<◌, ◌≤◌, min, Bool, true, false, not, ◌||◌, eqb, List, [], ◌∷◌, map, length, get_or, take, set, refl, ap, ◌∙◌, zero-le, arith, lit<, length-set, take_all}
+use Rattle.std.proofs.Common.{◌≡◌, ℕ, ◌+◌, ◌<◌, ◌≤◌, min, Bool, true, false, not, ◌||◌, eqb, List, [], ◌∷◌, map, length, get_or, take, set, refl, ap, ◌∙◌, arith, lit<, length-set, take_all}
+use Rattle.std.proofs.lemmas.List.{get_or_default}
 use lib.ListN.{length-map, get_or-map}
 use Rattle.laws.specs.Choice.{pick}
 use Rattle.laws.specs.Lists.{keeping}
@@ -29,12 +30,6 @@ unborne_ids rs (op ∷ l) =
     go : (b : Bool) → pick (not b) (op ∷ unborne rs l) (unborne rs l) ≡ pick b (unborne rs l) (op ∷ unborne rs l)
     go true = refl
     go false = refl
-
--- inside a list it does not matter what would stand for its end
-get_d_any : (l : List ℕ) (i d e : ℕ) → i < length l → get_or l i d ≡ get_or l i e
-get_d_any [] i d e h = absurd (omega arith)
-get_d_any (x ∷ l) zero d e h = refl
-get_d_any (x ∷ l) (suc i) d e h = get_d_any l i d e (omega arith)
 
 -- the ids up to i stand in the array
 pub record Naming (s : ProducerState) (ids : List ℕ) (i : ℕ) : Type 0 where
@@ -69,9 +64,6 @@ module _ (s : ProducerState) (full : length s.outbound ≡ 1024) (ids : List ℕ
       get_or-map frame_id (ring 1024 s.outbound h n) i d
       ∙ ap frame_id (ring_at 1024 (lit< tt) s.outbound full d h n i b)
 
-  pub naming_start : length ids ≡ 1024 → Naming s ids 0
-  naming_start e = record { len = e; low = zero-le; same = refl }
-
   module _ (i : ℕ) (l : Naming s ids i) where
     pub naming_step : (d : FrameRecord) → i < min s.core.rings.outbound.len 1024
         → Naming s (set ids i (frame_id (get_or s.outbound (slot 1024 s.core.rings.outbound.head i) d))) (i + 1)
@@ -83,5 +75,5 @@ module _ (s : ProducerState) (full : length s.outbound ≡ 1024) (ids : List ℕ
         record {
           len = simp length-set l.len;
           low = omega arith;
-          same = take_copied names ids i x h (omega (arith, l.len)) (get_d_any names i x (frame_id d) h ∙ name_there i d b) l.same;
+          same = take_copied names ids i x h (omega (arith, l.len)) (get_or_default names i x (frame_id d) h ∙ name_there i d b) l.same;
         }

@@ -1,5 +1,5 @@
 -- The loops of the replays: entries and their frames go to the front, the last first. Assumes nothing.
-use Rattle.std.specs.Prelude.{None, Option, Some}
+use Rattle.std.specs.Prelude.{None, Some}
 use Rattle.std.proofs.Common.{◌≡◌, ℕ, ◌+◌, ◌^◌, ◌<◌, Bool, true, false, not, List, [], ◌∷◌, ◌++◌, map, length, sym, refl, ap, ◌∙◌, arith, lit<}
 use Rattle.laws.specs.Choice.{pick}
 use Rattle.laws.specs.Lists.{front, front_all}

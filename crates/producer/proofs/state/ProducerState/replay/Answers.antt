@@ -1,13 +1,11 @@
 -- `ProducerState::replay`: marks, entries and frames are stored one after the other, unless 12, 7 or 4 refuses.
-use Rattle.std.proofs.Common.{◌≡◌, ℕ, ◌<◌, ◌^◌, List, length, map, sym, ap, ◌∙◌, subst, arith}
+use Rattle.std.proofs.Common.{◌<◌, ◌^◌, length, map, sym, ap, ◌∙◌, subst, arith}
 use Rattle.std.specs.Prelude.{Result}
 use Rattle.std.proofs.lemmas.Result.{err_from_is_err_and}
 use Rattle.laws.specs.Lists.{front_all}
-use Rattle.laws.specs.Numbers.{add_sat}
-use Rattle.types.specs.declared.entry.OpSend.{OpSend}
 use Rattle.types.specs.declared.error.ProducerError.{ProducerError}
 use Rattle.queue.specs.Queue.{Queue, done, with_out, with_pending}
-use Rattle.queue.specs.Tables.{frames_for, fronted, mark}
+use Rattle.queue.specs.Tables.{fronted, mark}
 use Rattle.plans.specs.Replay.{replay_answer}
 use Rattle.producer.specs.View.{view}
 use Rattle.producer.proofs.Full.{Full}

@@ -1,6 +1,6 @@
 -- `ProducerState::resend`: the entries chosen are the definition's, and their frames go to the front unless 4 refuses.
 use Rattle.std.proofs.Common.{ℕ, List, ap, ◌∙◌}
-use Rattle.std.specs.Prelude.{Err, Ok, Result}
+use Rattle.std.specs.Prelude.{Result}
 use Rattle.std.proofs.lemmas.Result.{err_from_is_err_and}
 use Rattle.laws.specs.Numbers.{add_sat}
 use Rattle.types.specs.declared.entry.OpSend.{OpSend}

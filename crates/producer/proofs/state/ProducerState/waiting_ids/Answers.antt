@@ -1,5 +1,5 @@
 -- `ProducerState::waiting_ids`: the array up to the count is the list of the frames' ids.
-use Rattle.std.proofs.Common.{ℕ, ◌+◌, List, get_or, map, set, subst, sym, arith}
+use Rattle.std.proofs.Common.{ℕ, ◌+◌, get_or, map, set, subst, sym, arith}
 use Rattle.tables.proofs.Turns.{listed}
 use Rattle.producer.specs.Replay.{frame_id}
 use Rattle.producer.specs.View.{view}
