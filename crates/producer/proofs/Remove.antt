@@ -1,8 +1,9 @@
 -- An entry leaves the pending ring: the first by moving the head on, another once the gap is closed. Assumes nothing.
-use Rattle.std.proofs.Common.{◌≡◌, ℕ, ◌-◌, ◌<◌, min, List, sym, refl, ap, ◌∙◌, arith, lit<, eq-eqb, ne_eqb}
+use Rattle.std.proofs.Common.{◌≡◌, ℕ, ◌-◌, ◌+◌, ◌<◌, ◌≤◌, min, List, length, take_all, sym, refl, ap, ◌∙◌, arith, lit<, eq-eqb, ne_eqb}
 use Rattle.laws.specs.Lists.{without}
 use Rattle.laws.specs.Ring.{ring}
 use Rattle.laws.proofs.Choice.{pick_true, pick_false}
+use Rattle.laws.proofs.Lists.{without_last}
 use Rattle.laws.proofs.Rings.{ring_drops}
 use Rattle.types.specs.declared.entry.OpSend.{OpSend}
 use Rattle.queue.specs.Queue.{with_pending}
@@ -14,7 +15,11 @@ use Rattle.producer.specs.Settle.{with_slots, GapClosed}
 use Rattle.producer.specs.declared.state.ProducerState.{ProducerState}
 use Rattle.producer.proofs.Blank.{blank}
 use Rattle.producer.proofs.Full.{Full, slots}
+use Rattle.producer.proofs.Listed.{few_ring}
 use Rattle.producer.proofs.Scalars.{with_core}
+
+without_past : (l : List OpSend) (i : ℕ) → length l ≤ i → without l i ≡ l
+without_past l i h = without_last l i (omega arith) ∙ take_all i l h
 
 module _ (s : ProducerState) (place : ℕ) where
   -- the pending entries of a state with these slots, once the entry at the place has left
@@ -46,3 +51,10 @@ module _ (s : ProducerState) (place : ℕ) where
       let n = s.core.rings.pending.len in
       removed t g.same
       (ap (λ (r : Ring 256). ring 256 (slots_of t) r.head r.len) (pick_false (without_front 256 1 s.core.rings.pending) (record { head = h; len = min n 256 - 1 }) (ne_eqb place 0 ne)) ∙ g.moved)
+
+  pub removed_none : min s.core.rings.pending.len 256 ≤ place → view s ≡ with_pending (without (view s).pending place) (view s)
+  unfolding view
+  removed_none b =
+      let few : length (view s).pending ≤ place =
+      omega (arith, few_ring 256 (slots_of s) s.core.rings.pending.head s.core.rings.pending.len) in
+      ap (λ (l : List OpSend). with_pending l (view s)) (sym (without_past (view s).pending place few))

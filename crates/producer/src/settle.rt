@@ -33,20 +33,22 @@ impl ProducerState {
         }
     }
 
-    // The entry at a place leaves.
-    fn remove(&mut self, place: usize)
-        requires { place < min self.old.core.rings.pending.len 256 }
+    // The entry at a place leaves, if there is one.
+    pub fn remove(&mut self, place: usize)
         ensures { view self.new ≡ with_pending (without (view self.old).pending place) (view self.old) }
     {
-        let core = self.core.without_entry(place);
-        if 0 < place {
-            self.close_gap(place);
+        if place < self.core.rings.pending.count() {
+            let core = self.core.without_entry(place);
+            if 0 < place {
+                self.close_gap(place);
+            }
+            self.core = core;
         }
-        self.core = core;
     }
 
-    // Where the first entry stands that bears the id, if the id is answerable.
-    fn place_of(&self, id: u64) -> Option<usize>
+    // Where the first entry stands that bears the id, if the id is answerable. How many marks there are is said here, since
+    // behind a `&mut` the check tells a function the lengths of four arrays.
+    pub fn place_of(&self, id: u64) -> Option<usize>
         ensures marks { length self.now.pending_marks ≡ 256 }
         ensures place { result ≡ located id (ring 256 (keys self.now.pending_ids self.now.pending_marks) self.now.core.rings.pending.head self.now.core.rings.pending.len) }
     {

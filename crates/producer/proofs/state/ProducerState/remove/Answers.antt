@@ -1,14 +1,14 @@
--- `ProducerState::remove`: the head moves on, or the gap is closed.
+-- `ProducerState::remove`: the head moves on, or the gap is closed; behind the last entry there is nothing to remove.
 use Rattle.std.proofs.Common.{◌∙◌, arith}
 use Rattle.producer.specs.View.{view}
 use Rattle.producer.proofs.Full.{Full}
 use Rattle.producer.proofs.Scalars.{with_core}
-use Rattle.producer.proofs.Remove.{removed_first, removed_later}
+use Rattle.producer.proofs.Remove.{removed_first, removed_later, removed_none}
 use Rattle.producer.proofs.state.ProducerState.remove.Goals.{then-place-gt0, else-place-gt0}
 use Rattle.producer.proofs.state.ProducerState.remove.Goals as goal
 
-pub returns : goal.returns
-returns c =
+pub returns-after-place-gt0 : goal.returns-after-place-gt0
+returns-after-place-gt0 c =
     let a = c.args in
     let s = a.self.now in
     let f : Full s = record { outbound = omega arith; held = omega arith; pending = omega arith; ids = omega arith; marks = omega arith } in
@@ -17,5 +17,8 @@ returns c =
           (λ j. view (with_core (c.without_entry-core.ensures j) (w.self-is j)))
           ∙ removed_later s a.place w.close_gap.new.self (λ z. omega arith) w.close_gap.ensures
       | else-place-gt0 w ↦
-          (λ j. view (with_core (c.without_entry-core.ensures j) (w.self-is j))) ∙ removed_first s a.place f (omega arith) c.requires
+          (λ j. view (with_core (c.without_entry-core.ensures j) (w.self-is j))) ∙ removed_first s a.place f (omega arith) (omega (arith, c.count.ensures, c.if-place-count.true))
     ]
+
+pub returns-else-place-count : goal.returns-else-place-count
+returns-else-place-count c = removed_none c.args.self.now c.args.place (omega (arith, c.count.ensures))

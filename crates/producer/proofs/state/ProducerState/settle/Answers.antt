@@ -19,26 +19,18 @@ use Rattle.producer.proofs.state.ProducerState.settle.Goals as goal
 -- a place that was found, against each of the lengths in question
 record InRange (s : ProducerState) (i : ℕ) : Type 0 where
   listed : i < length (view s).pending
-  entry : i < min s.core.rings.pending.len 256
 
 in_range : (s : ProducerState) → Full s → (id : ℕ) (r : Option ℕ) → r ≡ located id (map key_of (view s).pending) → (i : ℕ) → r ≡ Some i → InRange s i
 in_range s f id r e i at =
     let b : i < length (map key_of (view s).pending) = located_below id (map key_of (view s).pending) i (sym e ∙ at) in
     let l : length (map key_of (view s).pending) ≡ length (view s).pending = length-map (view s).pending key_of in
     let m : length (view s).pending ≡ min s.core.rings.pending.len 256 = length_view s f in
-    record { listed = omega arith; entry = omega arith }
+    record { listed = omega arith }
 
 -- what is searched are the keys of the pending entries
 placed : (s : ProducerState) → Full s → (id : ℕ) (r : Option ℕ) → r ≡ located id (ring 256 (keys s.pending_ids s.pending_marks) s.core.rings.pending.head s.core.rings.pending.len)
     → r ≡ located id (map key_of (view s).pending)
 placed s f id r e = e ∙ ap (located id) (sym (keys_view s f))
-
-pub remove-requires : goal.remove-requires
-remove-requires c =
-    let s = c.args.self.now in
-    let f : Full s = record { outbound = omega arith; held = omega arith; pending = omega arith; ids = omega arith; marks = c.place_of.ensures.marks } in
-    let at = or_ok c.place_of.result NotAnswerable c.in_ok-place.place (sym c.ok_or.ensures.value ∙ c.in_ok-place.was) in
-    rw c.unmark_all.ensures (in_range s f c.args.id _ (placed s f c.args.id _ c.place_of.ensures.place) c.in_ok-place.place at).entry
 
 pub returns : goal.returns
 returns c =
