@@ -1,7 +1,6 @@
 -- Drains: what is planned is what the definitions hand out, and the state without it stands for their queue. Assumes nothing.
 use Rattle.std.specs.Prelude.{Err, None, Ok, Option, Some, ℕ}
-use Rattle.std.proofs.Common.{◌≡◌, ℕ, suc, ◌-◌, ◌<◌, ◌≤◌, min, Bool, true, false, ltb, List, [], ◌∷◌, map, length, take, drop, sym, refl, ap, ◌∙◌, subst, zero-le, arith, lit<, length-take-le, take_all, take-take, take_at, le-ltb, lt-ltb, ltb-false}
-use native.Mathlib.Decide.{dec_lt}
+use Rattle.std.proofs.Common.{◌≡◌, ℕ, suc, ◌-◌, ◌≤◌, min, Bool, true, false, ltb, List, [], ◌∷◌, map, length, take, drop, sym, refl, ap, ◌∙◌, subst, zero-le, arith, lit<, length-take-le, take_all, take_at, le-ltb, ltb-false}
 use Rattle.laws.specs.Choice.{pick}
 use Rattle.laws.specs.Ring.{ring, slot}
 use Rattle.laws.proofs.Lists.{map_drop}
@@ -24,7 +23,6 @@ use Rattle.producer.specs.declared.state.ProducerState.{ProducerState}
 use Rattle.producer.proofs.Entries.{length_entries, unmarked_entries}
 use Rattle.producer.proofs.Full.{Full}
 use Rattle.producer.proofs.Plans.{ok_of, err_of}
-use Rattle.producer.proofs.Locate.{length_view}
 
 -- ── what is handed out ──
 

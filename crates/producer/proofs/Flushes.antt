@@ -1,8 +1,7 @@
 -- A flush: the stores of its plan make the queue of the definition. Assumes nothing.
 use Rattle.std.specs.Prelude.{Err, Ok, Result, ℕ}
-use Rattle.std.proofs.Common.{◌≡◌, ℕ, ◌+◌, ◌<◌, Bool, true, false, ltb, refl, ap, lit<}
+use Rattle.std.proofs.Common.{◌≡◌, ℕ, ◌+◌, Bool, true, false, ltb, refl, ap}
 use Rattle.laws.specs.Choice.{pick}
-use Rattle.laws.proofs.Slots.{slot_below}
 use Rattle.types.specs.Empty.{empty_batch}
 use Rattle.types.specs.declared.frame.FrameRecord.{FrameRecord}
 use Rattle.types.specs.declared.batch.BatchContainer.{BatchContainer}
@@ -12,9 +11,7 @@ use Rattle.queue.specs.Batch.{batch_record, with_batch, is_empty, flushed, flush
 use Rattle.queue.specs.Send.{flush_if}
 use Rattle.queue.specs.Told.{told, Kept}
 use Rattle.plans.specs.Delta.{counted_core}
-use Rattle.rules.specs.Batch.{makes_frame}
-use Rattle.plans.specs.Batch.{flushed_core, flushed_if, flush_answer, flush_of, flush_planned}
-use Rattle.plans.specs.declared.state.Core.{Core}
+use Rattle.plans.specs.Batch.{flushed_core, flushed_if, flush_of, flush_planned}
 use Rattle.plans.specs.declared.delta.FlushDelta.{FlushDelta}
 use Rattle.plans.specs.declared.delta.Pushed.{Pushed}
 use Rattle.producer.specs.View.{view}

@@ -1,12 +1,11 @@
 -- The loop that lists the pending entries: those up to i stand in the array. Assumes nothing.
 use Rattle.std.proofs.Common.{◌≡◌, ℕ, ◌+◌, ◌<◌, ◌≤◌, min, List, [], ◌∷◌, ◌++◌, length, get_or, take, drop, set, sym, refl, ap, ◌∙◌, ◌%◌, zero-le, add-one, arith, length-set, length-take, take_all, take-suc, take-suc-set}
-use Rattle.laws.specs.Ring.{ring, slot}
+use Rattle.laws.specs.Ring.{ring}
 use Rattle.types.specs.declared.entry.OpSend.{OpSend}
-use Rattle.types.specs.declared.entry.Publish.{Publish}
-use Rattle.producer.specs.View.{view, entry_of, slots_of}
+use Rattle.producer.specs.View.{view, slots_of}
 use Rattle.producer.specs.declared.state.ProducerState.{ProducerState}
 use Rattle.producer.proofs.Full.{Full}
-use Rattle.producer.proofs.Locate.{entry_there, length_view}
+use Rattle.producer.proofs.Locate.{length_view}
 
 -- one more element of l at its place of a
 pub take_copied : {A : Type 0} (l a : List A) (i : ℕ) (x : A) → i < length l → i < length a → get_or l i x ≡ x → take i a ≡ take i l

@@ -3,7 +3,6 @@ use Rattle.std.specs.Prelude.{None, Option, Some, ℕ}
 use Rattle.std.proofs.Common.{◌≡◌, ℕ, ◌+◌, ◌<◌, ◌≤◌, min, true, false, List, map, length, get_or, sym, ap, ◌∙◌, arith, lit<}
 use native.Mathlib.Decide.{dec_lt}
 use lib.ListN.{get_or-eq_default}
-use Rattle.laws.specs.Lists.{first_at}
 use Rattle.laws.specs.Ring.{ring, slot}
 use Rattle.laws.proofs.Slots.{slot_below}
 use Rattle.laws.proofs.Lists.{first_below}

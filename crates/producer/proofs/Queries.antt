@@ -1,18 +1,18 @@
 -- Deadlines and counts of the scalars are those of the queue. Assumes nothing.
 use Rattle.std.specs.Prelude.{None, Option, Some, ℕ}
-use Rattle.std.proofs.Common.{◌≡◌, ℕ, ◌%◌, ◌<◌, Bool, true, false, eqb, length, get_or, sym, refl, ap, ◌∙◌, arith, lit<, eq-eqb, ne_eqb}
+use Rattle.std.proofs.Common.{◌≡◌, ℕ, ◌<◌, Bool, true, false, eqb, length, get_or, sym, refl, ap, ◌∙◌, arith, lit<, eq-eqb, ne_eqb}
 use native.Mathlib.Decide.{dec_lt}
 use Rattle.laws.specs.Choice.{pick}
 use Rattle.laws.specs.Ring.{ring, slot}
 use Rattle.laws.proofs.Choice.{pick_true, pick_false}
 use Rattle.laws.proofs.Rings.{ring_pop, ring_none}
-use Rattle.laws.proofs.Slots.{slot_zero, slot_below}
+use Rattle.laws.proofs.Slots.{slot_below}
 use Rattle.types.specs.declared.entry.OpSend.{OpSend}
 use Rattle.types.specs.declared.entry.Publish.{Publish}
 use Rattle.queue.specs.Ids.{after, elapsed, front_deadline, next_send_deadline, next_batch_deadline, batch_deadline_elapsed}
 use Rattle.upkeep.specs.Deadline.{maybe_after, has_elapsed, unless_none}
 use Rattle.plans.specs.Ids.{send_deadline_of, batch_deadline_of}
-use Rattle.producer.specs.View.{view, slots_of, entry_of}
+use Rattle.producer.specs.View.{view, slots_of}
 use Rattle.producer.specs.declared.state.ProducerState.{ProducerState}
 use Rattle.producer.proofs.Blank.{blank}
 use Rattle.producer.proofs.Entries.{entries_at}

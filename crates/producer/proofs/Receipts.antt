@@ -1,6 +1,6 @@
 -- From what settling an id leaves of a state to the answers of receipts and errors. Assumes nothing.
 use Rattle.std.specs.Prelude.{Err, Ok, Option, Some, None, Result}
-use Rattle.std.proofs.Common.{◌≡◌, ℕ, ◌+◌, Bool, true, false, List, [], ◌++◌, map, take, drop, ℤ, sym, refl, ap, ◌∙◌, subst}
+use Rattle.std.proofs.Common.{◌≡◌, ℕ, ◌+◌, Bool, true, false, List, [], ◌++◌, map, take, drop, ℤ, sym, ap, ◌∙◌, subst}
 use Rattle.laws.specs.Lists.{first_at}
 use Rattle.laws.specs.Lists as lists
 use Rattle.laws.proofs.Lists.{map_take, map_drop, map_append}

@@ -1,5 +1,5 @@
 -- An entry leaves the pending ring: the first by moving the head on, another once the gap is closed. Assumes nothing.
-use Rattle.std.proofs.Common.{◌≡◌, ℕ, ◌-◌, ◌+◌, ◌<◌, ◌≤◌, min, List, length, take_all, sym, refl, ap, ◌∙◌, arith, lit<, eq-eqb, ne_eqb}
+use Rattle.std.proofs.Common.{◌≡◌, ℕ, ◌-◌, ◌<◌, ◌≤◌, min, List, length, take_all, sym, refl, ap, ◌∙◌, arith, lit<, eq-eqb, ne_eqb}
 use Rattle.laws.specs.Lists.{without}
 use Rattle.laws.specs.Ring.{ring}
 use Rattle.laws.proofs.Choice.{pick_true, pick_false}

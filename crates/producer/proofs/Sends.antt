@@ -1,10 +1,9 @@
 -- A send: the stores of its plan make the queue of the definition, and its answer is the definition's. Each way is a run of pushes. Assumes nothing.
-use Rattle.std.specs.Prelude.{Err, Ok, Result}
-use Rattle.std.proofs.Common.{◌≡◌, ℕ, ◌+◌, ◌*◌, min, Bool, true, false, not, ◌&&◌, ltb, leb, length, pos, sym, refl, ap, ◌∙◌, subst, lit<}
+use Rattle.std.specs.Prelude.{Err, Ok}
+use Rattle.std.proofs.Common.{◌≡◌, ℕ, ◌+◌, ◌*◌, min, Bool, true, false, not, ◌&&◌, ltb, leb, length, pos, sym, refl, ap, ◌∙◌, subst}
 use Rattle.laws.specs.Choice.{pick}
 use Rattle.laws.specs.Numbers.{add_sat}
 use Rattle.laws.proofs.Choice.{pick_ind}
-use Rattle.laws.proofs.Slots.{slot_below}
 use Rattle.types.specs.declared.entry.Publish.{Publish}
 use Rattle.types.specs.declared.entry.Replay.TheVariants as replay
 use Rattle.types.specs.declared.error.ProducerError.TheVariants.{Closed, PartOutside, OverBound, OutboundFull, HeldFull, PendingFull}
@@ -20,7 +19,6 @@ use Rattle.plans.specs.Delta.{counted_core, accepted}
 use Rattle.plans.specs.Batch.{flushed_if}
 use Rattle.plans.specs.Choose.{chosen, chosen_within}
 use Rattle.plans.specs.Send.{publish_of, frame_of, emitted, singled, joined, chunked, refused_large, joined_after, followed, plan_out, planned}
-use Rattle.plans.specs.declared.state.Core.{Core}
 use Rattle.plans.specs.declared.delta.SendDelta.{SendDelta}
 use Rattle.plans.specs.declared.send.Sending.{Sending}
 use Rattle.plans.specs.declared.send.Emitted.{Emitted}
@@ -32,7 +30,6 @@ use Rattle.producer.specs.declared.state.ProducerState.{ProducerState}
 use Rattle.producer.proofs.Full.{Full, full_core, full_entry, full_held}
 use Rattle.producer.proofs.Views.{holding, pushes, holds, accepts, held_length, pending_length}
 use Rattle.producer.proofs.Flushes.{batching, after, flushes_if, full_flushed_lem}
-use Rattle.types.specs.declared.error.ProducerError.{ProducerError}
 
 -- what the definition calls a sending
 abbrev pub brought : Sending → send.Sending

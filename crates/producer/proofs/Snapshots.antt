@@ -1,6 +1,6 @@
 -- The snapshot: what is planned is what the definitions hand out, and the state after it stands for their queue. Assumes nothing.
 use Rattle.std.specs.Prelude.{Err, Ok, Result}
-use Rattle.std.proofs.Common.{◌≡◌, ℕ, ◌<◌, ◌≤◌, Bool, true, false, not, ◌&&◌, ◌||◌, ltb, leb, List, [], ◌∷◌, length, take, drop, sym, refl, ap, ◌∙◌, subst, zero-le, arith, take_at, take_all, le-ltb, lt-ltb, le-leb, leb-true}
+use Rattle.std.proofs.Common.{◌≡◌, ℕ, ◌<◌, Bool, true, false, not, ◌&&◌, ◌||◌, ltb, leb, List, [], length, take, drop, sym, refl, ap, ◌∙◌, subst, arith, take_at, take_all, le-ltb, lt-ltb, le-leb, leb-true}
 use native.Mathlib.Decide.{dec_lt}
 use borrow.Author.Tests.{lt-leb}
 use Rattle.laws.specs.Choice.{pick}
@@ -12,7 +12,7 @@ use Rattle.types.specs.declared.settings.Setting.TheVariants.{BrokerReady}
 use Rattle.queue.specs.Queue.{Queue, Outcome, refused, done, empty_outgoing}
 use Rattle.queue.specs.Settings.{changed}
 use Rattle.queue.specs.Settle.{table_after}
-use Rattle.queue.specs.Tables.{is_batched, batched_of, framed_of, failed, snapshot_pending_sends}
+use Rattle.queue.specs.Tables.{batched_of, framed_of, failed, snapshot_pending_sends}
 use Rattle.queue.specs.Told.{Kept}
 use Rattle.tables.specs.Scalars.{core_snapshot}
 use Rattle.tables.specs.Picked.{kind_of, Lists}
@@ -23,10 +23,8 @@ use Rattle.producer.specs.Apply.{store_core}
 use Rattle.producer.specs.Tables.{told_snapshot, dropped_left, replay_left}
 use Rattle.producer.specs.View.{view, slots_of}
 use Rattle.producer.specs.declared.state.ProducerState.{ProducerState}
-use Rattle.producer.proofs.Full.{Full}
 use Rattle.producer.proofs.Plans.{ok_then, err_else}
 use Rattle.laws.proofs.Choice.{differ}
-use Rattle.producer.proofs.Locate.{length_view}
 
 -- ── the call ──
 

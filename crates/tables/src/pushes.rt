@@ -6,7 +6,7 @@ ghost use Rattle.laws.specs.Numbers.{add_sat};
 use crate::entries::frames_of;
 use types::entry::OpSend;
 
-// The sum of the largest counts of 256 entries is far below 2^64 - 1, where it would stop.
+// A sum that would stop at 2^64 - 1 is refused all the same.
 pub fn frames_for(ops: &[OpSend]) -> usize
     ensures { result ≡ add_sat 0 (frames_for ops.now) }
 {

@@ -1,7 +1,6 @@
 -- `ProducerState::flush_batch`: what is planned is stored, and the plan's store makes the queue of the definition.
 use Rattle.std.proofs.Common.{sym, subst}
 use Rattle.queue.specs.Batch.{flush_batch}
-use Rattle.plans.specs.Batch.{flush_planned}
 use Rattle.plans.specs.declared.delta.FlushDelta.{FlushDelta}
 use Rattle.producer.specs.View.{view}
 use Rattle.producer.specs.declared.state.ProducerState.{ProducerState}

@@ -1,5 +1,5 @@
 -- `ProducerState::hand_out`: what is planned is what the definitions hand out.
-use Rattle.std.proofs.Common.{ℕ, length, ◌∙◌, ap, sym, length-take, length-take-le, arith}
+use Rattle.std.proofs.Common.{ℕ, length, ◌∙◌, ap, sym, length-take-le, arith}
 use Rattle.std.proofs.lemmas.Result.{err_from_is_err_and}
 use Rattle.tables.specs.Drain.{handout_of}
 use Rattle.producer.proofs.Full.{Full}

@@ -1,10 +1,7 @@
 -- `ProducerState::receive`: what settling leaves, with the published number.
-use Rattle.std.proofs.Common.{◌≡◌, ◌∙◌}
+use Rattle.std.proofs.Common.{◌∙◌}
 use Rattle.std.proofs.lemmas.Result.{err_from_is_err_and}
-use Rattle.plans.specs.declared.state.Core.{Core}
-use Rattle.queue.specs.Queue.{Outcome, done}
-use Rattle.types.specs.declared.entry.OpSend.{OpSend}
-use Rattle.types.specs.declared.types.MessageId.{MessageId}
+use Rattle.queue.specs.Queue.{done}
 use Rattle.producer.specs.View.{view}
 use Rattle.producer.specs.Apply.{store_core}
 use Rattle.producer.proofs.Receipts.{received, not_received}

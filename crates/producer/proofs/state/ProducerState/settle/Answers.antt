@@ -1,5 +1,5 @@
 -- `ProducerState::settle`: the place is that of the definitions, and the steps leave the entries without it.
-use Rattle.std.specs.Prelude.{Err, None, Ok, Option, Some, ok_or, ℕ}
+use Rattle.std.specs.Prelude.{Err, Option, Some, ℕ}
 use Rattle.std.proofs.Common.{◌≡◌, ℕ, ◌<◌, min, map, length, sym, refl, ap, ◌∙◌, subst, arith}
 use Rattle.std.proofs.lemmas.Result.{err_from_is_err_and}
 use lib.ListN.{length-map}
