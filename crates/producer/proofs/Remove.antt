@@ -15,7 +15,7 @@ use Rattle.producer.specs.Settle.{with_slots, GapClosed}
 use Rattle.producer.specs.declared.state.ProducerState.{ProducerState}
 use Rattle.producer.proofs.Blank.{blank}
 use Rattle.producer.proofs.Full.{Full, slots}
-use Rattle.producer.proofs.Listed.{few_ring}
+use Rattle.producer.proofs.Listed.{few_pending}
 use Rattle.producer.proofs.Scalars.{with_core}
 
 without_past : (l : List OpSend) (i : ℕ) → length l ≤ i → without l i ≡ l
@@ -55,6 +55,4 @@ module _ (s : ProducerState) (place : ℕ) where
   pub removed_none : min s.core.rings.pending.len 256 ≤ place → view s ≡ with_pending (without (view s).pending place) (view s)
   unfolding view
   removed_none b =
-      let few : length (view s).pending ≤ place =
-      omega (arith, few_ring 256 (slots_of s) s.core.rings.pending.head s.core.rings.pending.len) in
-      ap (λ (l : List OpSend). with_pending l (view s)) (sym (without_past (view s).pending place few))
+      ap (λ (l : List OpSend). with_pending l (view s)) (sym (without_past (view s).pending place (omega (arith, few_pending s))))

@@ -3,7 +3,8 @@ use Rattle.std.proofs.Common.{arith}
 use Rattle.tables.proofs.Turns.{listed}
 use Rattle.producer.specs.View.{view}
 use Rattle.producer.proofs.Full.{Full}
-use Rattle.producer.proofs.Listed.{listing_step, listing_all}
+use Rattle.producer.proofs.Listed.{few_pending, listing_step, listing_all}
+use Rattle.producer.proofs.Locate.{length_view}
 use Rattle.producer.proofs.state.ProducerState.entries.Goals as goal
 
 pub loop-i-preserved : goal.loop-i-preserved
@@ -11,10 +12,11 @@ loop-i-preserved c =
     let s = c.args.self.now in
     let f : Full s = record { outbound = omega arith; held = omega arith; pending = omega arith; ids = omega arith; marks = c.op_at.ensures.marks } in
     let k = c.loop-i in
-    listing_step s f k.items k.i k.invariant _ (omega (arith, c.count-len.ensures)) c.op_at.ensures.entry
+    listing_step 256 _ _ k.items k.i k.invariant _ (omega arith) (omega (arith, length_view s f)) (omega (arith, c.count-len.ensures)) c.op_at.ensures.entry
 
 pub returns : goal.returns
 returns c =
     let s = c.args.self.now in
     let k = c.loop-i in
-    listed (view s).pending _ (omega (arith, c.count-len.ensures, k.invariant.len)) (rw c.count-len.ensures (listing_all s k.items k.i k.invariant (omega (arith, c.count-len.ensures))))
+    listed (view s).pending _ (omega (arith, c.count-len.ensures, k.invariant.len))
+    (rw c.count-len.ensures (listing_all 256 _ _ k.items k.i k.invariant (omega (arith, c.count-len.ensures)) (few_pending s)))

@@ -1,6 +1,8 @@
 -- `ProducerState::entries`: the array up to the count is the list of entries.
+use Rattle.std.proofs.Common.{min}
+use Rattle.producer.specs.View.{view}
 use Rattle.producer.proofs.Listed.{Listing}
 use Rattle.producer.proofs.state.ProducerState.entries.Given as goal
 
 abbrev pub invariant-loop-i : goal.invariant-loop-i
-invariant-loop-i l = Listing l.self l.items l.i
+invariant-loop-i l = Listing 256 (min l.self.core.rings.pending.len 256) (view l.self).pending l.items l.i

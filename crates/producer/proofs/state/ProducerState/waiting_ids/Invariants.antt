@@ -1,6 +1,9 @@
 -- `ProducerState::waiting_ids`: the array up to the count is the list of the frames' ids.
-use Rattle.producer.proofs.Borne.{Naming}
+use Rattle.std.proofs.Common.{map, min}
+use Rattle.producer.specs.Replay.{frame_id}
+use Rattle.producer.specs.View.{view}
+use Rattle.producer.proofs.Listed.{Listing}
 use Rattle.producer.proofs.state.ProducerState.waiting_ids.Given as goal
 
 abbrev pub invariant-loop-i : goal.invariant-loop-i
-invariant-loop-i l = Naming l.self l.items l.i
+invariant-loop-i l = Listing 1024 (min l.self.core.rings.outbound.len 1024) (map frame_id (view l.self).out.frames) l.items l.i
