@@ -62,7 +62,7 @@ fn bytes(rt: &impl Print, name: &str, s: &[u8]) -> io::Result<()> {
 fn quote(rt: &impl Print) -> io::Result<()> {
     let mut out = [0; 11];
     let m = message(5, None, None);
-    put_item(&mut out, 0, b"quote", m);
+    put_item(&mut out, b"quote", m);
     bytes(rt, "B1", &out)
 }
 

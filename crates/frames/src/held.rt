@@ -38,7 +38,7 @@ impl<'a> Held<'a> {
     {
         let mut to = 0;
         for i in 0..self.ring.count() {
-            to = put_item(out, to, store, self.messages[self.ring.slot(i)]);
+            to += put_item(&mut out[to..], store, self.messages[self.ring.slot(i)]);
         }
         to
     }

@@ -29,8 +29,7 @@ next v w =
     }
 
 -- one run of bytes in front of another that is there already
-pub before : {d₀ d₁ d₂ a b : List ℕ} {at at₂ n k : ℕ} → at₂ ≡ at + length a → Puts b at₂ d₀ d₁ n → Puts a at d₁ d₂ k
-    → Puts (a ++ b) at d₀ d₂ n
+pub before : {d₀ d₁ d₂ a b : List ℕ} {at n k : ℕ} → at ≡ length a → Puts b at d₀ d₁ n → Puts a 0 d₁ d₂ k → Puts (a ++ b) 0 d₀ d₂ n
 before e v w = grind (arith, common_steps)
 
 -- a run of bytes for which the rest of the buffer is lent, written from its start and taken back
@@ -39,17 +38,20 @@ pub lent_at : (d : List ℕ) (at : ℕ) {ys b : List ℕ} {n : ℕ} → at ≤ l
 lent_at d at h w = grind (arith, common_steps)
 
 -- the same after another run
-pub then : {d₀ d ys a b : List ℕ} {at₀ at n : ℕ} → Puts a at₀ d₀ d at → Puts b 0 (take (length d - at) (drop at d)) ys n
-    → Puts (a ++ b) at₀ d₀ (take at d ++ (ys ++ drop (length d - at) (drop at d))) (at + n)
+pub then : {d₀ d ys a b : List ℕ} {at n : ℕ} → Puts a 0 d₀ d at → Puts b 0 (take (length d - at) (drop at d)) ys n
+    → Puts (a ++ b) 0 d₀ (take at d ++ (ys ++ drop (length d - at) (drop at d))) (at + n)
 then {d = d} {at = at} v w = let e = same v in next v (lent_at d at (let r = v.room in let f = v.next in omega arith) w)
 
+-- the same for bytes that are copied over the part of the buffer
+pub then_copied : {d₀ d x a b : List ℕ} {at n : ℕ} → Room (a ++ b) 0 d₀ → Puts a 0 d₀ d at → length b ≡ n → x ≡ b
+    → Puts (a ++ b) 0 d₀ (take at d ++ (x ++ drop (at + n - at) (drop at d))) (at + n)
+then_copied r v e f = grind (arith, common_steps, next)
+
 -- four bytes that say how many bytes follow them
-pub counted : (d : List ℕ) (at : ℕ) {ys b d₂ : List ℕ} {n k : ℕ} → at + 4 ≤ length d
-    → Puts b 0 (take (length d - (at + 4)) (drop (at + 4) d)) ys n
-    → Puts (be32 n) at (take (at + 4) d ++ (ys ++ drop (length d - (at + 4)) (drop (at + 4) d))) d₂ k
-    → Puts (be32 (length b) ++ b) at d d₂ (at + 4 + n)
+pub counted : (d : List ℕ) {ys b d₂ : List ℕ} {n k : ℕ} → 4 ≤ length d → Puts b 0 (take (length d - 4) (drop 4 d)) ys n
+    → Puts (be32 n) 0 (take 4 d ++ (ys ++ drop (length d - 4) (drop 4 d))) d₂ k → Puts (be32 (length b) ++ b) 0 d d₂ (4 + n)
 unfolding be32
-counted d at {b = b} h v w = before refl (lent_at d (at + 4) h v) (rw (v.next ∙ zero-add (length b)) at w)
+counted d {b = b} h v w = before refl (lent_at d 4 h v) (rw (v.next ∙ zero-add (length b)) at w)
 
 -- bytes that are as many as the buffer's fill it
 pub filled : {b d d₂ : List ℕ} {n : ℕ} → Puts b 0 d d₂ n → length b ≡ length d → d₂ ≡ b
@@ -75,6 +77,18 @@ pub going_step : {whole a b d₀ d₁ d₂ : List ℕ} {at n m : ℕ} → Going 
     → Going whole b at d₀ d₂ m
 going_step {whole} {a} {b} g p =
     record { done = g.done ++ a; sofar = next g.sofar p; total = append_assoc g.done a b ∙ g.total }
+
+-- the same where the rest of the buffer is lent
+pub going_lent_room : {whole a d₀ d : List ℕ} (b : List ℕ) {at n : ℕ} → Going whole (a ++ b) at d₀ d n → Room whole at d₀
+    → Room a 0 (take (length d - n) (drop n d))
+going_lent_room b g r = let f = going_room b g r in grind (arith, common_steps)
+
+pub going_lent : {whole a b d₀ d ys : List ℕ} {at n m : ℕ} → Going whole (a ++ b) at d₀ d n
+    → Puts a 0 (take (length d - n) (drop n d)) ys m
+    → Going whole b at d₀ (take n d ++ (ys ++ drop (length d - n) (drop n d))) (n + m)
+going_lent {d} {n} g p =
+    let e = same g.sofar in
+    going_step g (lent_at d n (let r = g.sofar.room in let f = g.sofar.next in omega arith) p)
 
 pub going_end : {whole d₀ d : List ℕ} {at n : ℕ} → Going whole [] at d₀ d n → Puts whole at d₀ d n
 going_end g = grind (arith, common_steps)

@@ -5,7 +5,6 @@ ghost use Rattle.wire.specs.Length.{item_length, stopped};
 ghost use Rattle.wire.specs.Buffer.{Room, Puts};
 
 use crate::be32::put_be32;
-use crate::copy::copy;
 use crate::single::{put_single, single_len};
 use types::message::{Part, SingleMessage};
 
@@ -19,17 +18,17 @@ pub fn item_len(m: SingleMessage) -> usize
         .saturating_add(m.payload.len)
 }
 
-// Writes the item from `at` on, and answers the next place. The rest of `out` is lent to the writer of the single metadata and
-// then to the payload copy; the four bytes before say what the first has written.
-#[tactic(auto, using(crate::proofs::Lengths::item_size))]
-pub fn put_item(out: &mut [u8], at: usize, store: &[u8], m: SingleMessage) -> usize
-    requires { InStore (length store.now) m × Room (item (item_of store.now m)) at out.old }
-    ensures { Puts (item (item_of store.now m)) at out.old out.new result }
+// Writes the item to the start of `out`. What is behind the first four bytes is lent to the writer of the single metadata; the
+// four say how many bytes it has written.
+#[tactic(auto, using(crate::proofs::Lengths::item_size, crate::specs::Fields::part_length))]
+pub fn put_item(out: &mut [u8], store: &[u8], m: SingleMessage) -> usize
+    requires { InStore (length store.now) m × Room (item (item_of store.now m)) 0 out.old }
+    ensures { Puts (item (item_of store.now m)) 0 out.old out.new result }
 {
     let Part { start, len } = m.payload;
-    let single_at = at + 4;
-    let n = put_single(&mut out[single_at..], store, m);
-    put_be32(out, at, n);
-    let payload_at = single_at + n;
-    payload_at + copy(&mut out[payload_at..], &store[start..start + len])
+    let n = put_single(&mut out[4..], store, m);
+    put_be32(out, n);
+    let head = 4 + n;
+    out[head..head + len].copy_from_slice(&store[start..start + len]);
+    head + len
 }

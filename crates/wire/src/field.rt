@@ -1,13 +1,12 @@
 // Protocol Buffers fields: a varint, or bytes after their length. A tag is a u8, so that no key overflows.
-ghost use Rattle.std.specs.Prelude.{◌≡◌, ◌+◌, ◌≤◌, ℕ, List, true, length, replicate, refl, None, Some};
+ghost use Rattle.std.specs.Prelude.{◌≡◌, ℕ, List, true, length, replicate, refl, None, Some};
 ghost use Rattle.std.specs.Option.{ForSome};
 ghost use Rattle.types.specs.Values.{part_of, part_in};
 ghost use Rattle.wire.specs.Proto.{varint_field, bytes_field, bool_field, optional};
 ghost use Rattle.wire.specs.Length.{stopped};
-ghost use Rattle.wire.specs.Buffer.{Puts};
+ghost use Rattle.wire.specs.Buffer.{Room, Puts};
 ghost use Rattle.wire.specs.Fields.{part_field_length};
 
-use crate::copy::copy;
 use crate::varint::{put_varint, varint_len};
 use types::message::Part;
 
@@ -27,10 +26,10 @@ pub trait Field {
     // The same with zeros for what is in the store, known without it.
     ghost blank: { ℕ → Self → List ℕ };
 
-    fn put_field(self, out: &mut [u8], at: usize, tag: u8, store: &[u8]) -> usize
+    fn put_field(self, out: &mut [u8], tag: u8, store: &[u8]) -> usize
         requires stored { stored (length store.now) self }
-        requires room { at + length (bytes store.now tag self) ≤ length out.old }
-        ensures { Puts (bytes store.now tag self) at out.old out.new result };
+        requires room { Room (bytes store.now tag self) 0 out.old }
+        ensures { Puts (bytes store.now tag self) 0 out.old out.new result };
 
     // How many bytes `put_field` writes.
     fn field_len(self, tag: u8) -> usize
@@ -39,7 +38,7 @@ pub trait Field {
     ghost as_long: { (store : List ℕ) (tag : ℕ) (x : Self) → stored (length store) x → length (bytes store tag x) ≡ length (blank tag x) };
 }
 
-#[tactic(auto, unfolding(crate::specs::Proto::varint_field, crate::specs::Proto::key))]
+#[tactic(auto, using(crate::proofs::Writes::then), unfolding(crate::specs::Proto::varint_field, crate::specs::Proto::key))]
 impl Field for u64 {
     ghost stored = { λ n v. Unit {0} };
 
@@ -49,9 +48,9 @@ impl Field for u64 {
 
     ghost as_long = { λ store tag v h. refl };
 
-    fn put_field(self, out: &mut [u8], at: usize, tag: u8, _store: &[u8]) -> usize {
-        let value_at = put_varint(out, at, tag as u64 * 8 + VARINT);
-        put_varint(out, value_at, self)
+    fn put_field(self, out: &mut [u8], tag: u8, _store: &[u8]) -> usize {
+        let n = put_varint(out, tag as u64 * 8 + VARINT);
+        n + put_varint(&mut out[n..], self)
     }
 
     fn field_len(self, tag: u8) -> usize {
@@ -69,8 +68,8 @@ impl Field for bool {
 
     ghost as_long = { λ store tag b h. refl };
 
-    fn put_field(self, out: &mut [u8], at: usize, tag: u8, store: &[u8]) -> usize {
-        (self as u64).put_field(out, at, tag, store)
+    fn put_field(self, out: &mut [u8], tag: u8, store: &[u8]) -> usize {
+        (self as u64).put_field(out, tag, store)
     }
 
     fn field_len(self, tag: u8) -> usize {
@@ -88,11 +87,12 @@ impl Field for Part {
 
     ghost as_long = { part_field_length };
 
-    fn put_field(self, out: &mut [u8], at: usize, tag: u8, store: &[u8]) -> usize {
+    fn put_field(self, out: &mut [u8], tag: u8, store: &[u8]) -> usize {
         let Part { start, len } = self;
-        let length_at = put_varint(out, at, tag as u64 * 8 + LENGTH_DELIMITED);
-        let bytes_at = put_varint(out, length_at, len as u64);
-        bytes_at + copy(&mut out[bytes_at..], &store[start..start + len])
+        let mut n = put_varint(out, tag as u64 * 8 + LENGTH_DELIMITED);
+        n += put_varint(&mut out[n..], len as u64);
+        out[n..n + len].copy_from_slice(&store[start..start + len]);
+        n + len
     }
 
     fn field_len(self, tag: u8) -> usize {
@@ -111,10 +111,10 @@ impl<T: Field> Field for Option<T> {
 
     ghost as_long = { λ store tag. elim [ None ↦ λ h. refl | Some v ↦ λ h. T.as_long store tag v (h v refl) ] };
 
-    fn put_field(self, out: &mut [u8], at: usize, tag: u8, store: &[u8]) -> usize {
+    fn put_field(self, out: &mut [u8], tag: u8, store: &[u8]) -> usize {
         match self {
-            None => at,
-            Some(v) => v.put_field(out, at, tag, store),
+            None => 0,
+            Some(v) => v.put_field(out, tag, store),
         }
     }
 

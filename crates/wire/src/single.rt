@@ -28,10 +28,10 @@ pub fn put_single(out: &mut [u8], store: &[u8], m: SingleMessage) -> usize
     requires { InStore (length store.now) m × Room (single (metadata_of store.now m)) 0 out.old }
     ensures { Puts (single (metadata_of store.now m)) 0 out.old out.new result }
 {
-    let mut at = m.partition_key.put_field(out, 0, 2, store);
-    at = (m.payload.len as u64).put_field(out, at, 3, store);
-    at = m.event_time.put_field(out, at, 5, store);
-    at = m.ordering_key.put_field(out, at, 7, store);
-    at = m.null_value.put_field(out, at, 9, store);
-    m.null_partition_key.put_field(out, at, 10, store)
+    let mut n = m.partition_key.put_field(out, 2, store);
+    n += (m.payload.len as u64).put_field(&mut out[n..], 3, store);
+    n += m.event_time.put_field(&mut out[n..], 5, store);
+    n += m.ordering_key.put_field(&mut out[n..], 7, store);
+    n += m.null_value.put_field(&mut out[n..], 9, store);
+    n + m.null_partition_key.put_field(&mut out[n..], 10, store)
 }

@@ -10,25 +10,25 @@ fn hex_digit(n: u8) -> u8
     if n < 10 { b'0' + n } else { b'a' + (n - 10) }
 }
 
-fn put_hex(out: &mut [u8], at: usize, b: u8) -> usize
-    requires { Room (hex_byte b) at out.old }
-    ensures { Puts (hex_byte b) at out.old out.new result }
+fn put_hex(out: &mut [u8], b: u8) -> usize
+    requires { Room (hex_byte b) 0 out.old }
+    ensures { Puts (hex_byte b) 0 out.old out.new result }
 {
-    out[at] = hex_digit(b / 16);
-    out[at + 1] = hex_digit(b % 16);
-    at + 2
+    out[0] = hex_digit(b / 16);
+    out[1] = hex_digit(b % 16);
+    2
 }
 
-fn put_dash(out: &mut [u8], at: usize, i: usize) -> usize
-    requires { Room (dash i) at out.old }
-    ensures { Puts (dash i) at out.old out.new result }
+fn put_dash(out: &mut [u8], i: usize) -> usize
+    requires { Room (dash i) 0 out.old }
+    ensures { Puts (dash i) 0 out.old out.new result }
 {
     match i {
         4 | 6 | 8 | 10 => {
-            out[at] = b'-';
-            at + 1
+            out[0] = b'-';
+            1
         }
-        _ => at,
+        _ => 0,
     }
 }
 
@@ -36,12 +36,12 @@ fn put_uuid(out: &mut [u8], uuid: &[u8]) -> usize
     requires { Room (text_from 0 uuid.now) 0 out.old }
     ensures { Puts (text_from 0 uuid.now) 0 out.old out.new result }
 {
-    let mut at = 0;
+    let mut n = 0;
     for (i, b) in uuid.iter().enumerate() {
-        at = put_dash(out, at, i);
-        at = put_hex(out, at, *b);
+        n += put_dash(&mut out[n..], i);
+        n += put_hex(&mut out[n..], *b);
     }
-    at
+    n
 }
 
 // 16 bytes as 36 lowercase characters, 8-4-4-4-12.

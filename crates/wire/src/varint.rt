@@ -1,7 +1,7 @@
 // Base-128 varints, one writer for 32 and 64 bits. The loops are no `for`: only their end shows how many bytes there are.
-ghost use Rattle.std.specs.Prelude.{◌≡◌, ◌+◌, ◌≤◌, length};
+ghost use Rattle.std.specs.Prelude.{◌≡◌, ◌≤◌, length};
 ghost use Rattle.wire.specs.Proto.{varint};
-ghost use Rattle.wire.specs.Buffer.{Puts};
+ghost use Rattle.wire.specs.Buffer.{Room, Puts};
 
 #[tactic(auto, using(crate::proofs::VarintLaws::byte_steps))]
 pub fn varint_len(v: u64) -> usize
@@ -16,17 +16,17 @@ pub fn varint_len(v: u64) -> usize
     n
 }
 
-pub fn put_varint(out: &mut [u8], at: usize, v: u64) -> usize
-    requires { at + length (varint v) ≤ length out.old }
-    ensures { Puts (varint v) at out.old out.new result }
+pub fn put_varint(out: &mut [u8], v: u64) -> usize
+    requires { Room (varint v) 0 out.old }
+    ensures { Puts (varint v) 0 out.old out.new result }
 {
     let mut rest = v;
-    let mut i = at;
+    let mut n = 0;
     while 128 <= rest {
-        out[i] = (rest % 128 + 128) as u8;
+        out[n] = (rest % 128 + 128) as u8;
         rest /= 128;
-        i += 1;
+        n += 1;
     }
-    out[i] = rest as u8;
-    i + 1
+    out[n] = rest as u8;
+    n + 1
 }

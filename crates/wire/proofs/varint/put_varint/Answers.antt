@@ -5,22 +5,22 @@ use Rattle.wire.proofs.Writes.{going_start, going_fits, going_step, going_end, p
 use Rattle.wire.proofs.varint.put_varint.Goals as goal
 
 pub loop-rest-init : goal.loop-rest-init
-loop-rest-init c = going_start (record { fits = c.requires })
+loop-rest-init c = going_start c.requires
 
-pub bounds-out-i : goal.bounds-out-i
-bounds-out-i c = omega (arith, going_fits c.loop-rest.invariant c.requires, one_or_more c.loop-rest.rest)
+pub bounds-out-n : goal.bounds-out-n
+bounds-out-n c = omega (arith, going_fits c.loop-rest.invariant c.requires.fits, one_or_more c.loop-rest.rest)
 
 pub loop-rest-preserved : goal.loop-rest-preserved
 loop-rest-preserved c =
     let l = c.loop-rest in
-    let here : l.i < length l.out = omega (arith, going_fits l.invariant c.requires, one_or_more l.rest) in
-    going_step (rw (large l.rest c.loop-rest-test.true) at l.invariant) (put_byte l.out l.i _ here)
+    let here : l.n < length l.out = omega (arith, going_fits l.invariant c.requires.fits, one_or_more l.rest) in
+    going_step (rw (large l.rest c.loop-rest-test.true) at l.invariant) (put_byte l.out l.n _ here)
 
-pub bounds-out-i-2 : goal.bounds-out-i-2
-bounds-out-i-2 c = omega (arith, going_fits c.loop-rest.invariant c.requires, one_or_more c.loop-rest.rest)
+pub bounds-out-n-2 : goal.bounds-out-n-2
+bounds-out-n-2 c = omega (arith, going_fits c.loop-rest.invariant c.requires.fits, one_or_more c.loop-rest.rest)
 
 pub returns : goal.returns
 returns c =
     let l = c.loop-rest in
-    let here : l.i < length l.out = omega (arith, going_fits l.invariant c.requires, one_or_more l.rest) in
-    going_end (going_step (rw (small l.rest c.loop-rest-test.false) at l.invariant) (put_byte l.out l.i _ here))
+    let here : l.n < length l.out = omega (arith, going_fits l.invariant c.requires.fits, one_or_more l.rest) in
+    going_end (going_step (rw (small l.rest c.loop-rest-test.false) at l.invariant) (put_byte l.out l.n _ here))

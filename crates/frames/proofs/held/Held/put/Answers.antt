@@ -5,7 +5,7 @@ use Prim.Native.Nat.{ℕ, ◌+◌, ◌<◌, ◌≤◌, min}
 use lib.ListN.{length, drop, drop_of_length-le}
 use Rattle.laws.specs.Ring.{ring}
 use Rattle.wire.specs.Batch.{items, batch_payload}
-use Rattle.wire.proofs.Writes.{Going, going_room, going_step, going_end, same}
+use Rattle.wire.proofs.Writes.{Going, going_lent_room, going_lent, going_end, same}
 use Rattle.frames.proofs.Batches.{held_length, held_next, held_in_lem}
 use native.Mathlib.Omega.{arith}
 use Rattle.frames.proofs.held.Held.put.Goals as goal
@@ -18,7 +18,7 @@ put_item-to-requires c =
     let ms = ring 512 s.messages.now s.ring.head s.ring.len in
     let here : l.i < min s.ring.len 512 = omega arith in
     let g = subst (λ (todo : List ℕ). Going (batch_payload a.store.now ms) todo 0 a.out.now l.out l.to) (held_next s.messages.now s.full s.ring.head s.ring.len a.store.now l.i _ _ c.slot.ensures here) l.invariant.1 in
-    (held_in_lem s.messages.now s.full s.ring.head s.ring.len a.store.now l.i _ _ c.slot.ensures here c.requires.0, going_room (batch_payload a.store.now (drop (l.i + 1) ms)) g c.requires.1)
+    (held_in_lem s.messages.now s.full s.ring.head s.ring.len a.store.now l.i _ _ c.slot.ensures here c.requires.0, going_lent_room (batch_payload a.store.now (drop (l.i + 1) ms)) g c.requires.1)
 
 pub loop-i-preserved : goal.loop-i-preserved
 loop-i-preserved c =
@@ -28,7 +28,8 @@ loop-i-preserved c =
     let ms = ring 512 s.messages.now s.ring.head s.ring.len in
     let here : l.i < min s.ring.len 512 = omega arith in
     let g = subst (λ (todo : List ℕ). Going (batch_payload a.store.now ms) todo 0 a.out.now l.out l.to) (held_next s.messages.now s.full s.ring.head s.ring.len a.store.now l.i _ _ c.slot.ensures here) l.invariant.1 in
-    (omega arith, going_step g c.put_item-to.ensures, same c.put_item-to.ensures ∙ l.invariant.2)
+    let then = going_lent g c.put_item-to.ensures in
+    (omega arith, then, same then.sofar)
 
 pub returns : goal.returns
 unfolding items
