@@ -1,5 +1,5 @@
-// What a plan hands to `apply`: the scalars after the call, and which records go to which places.
-ghost use Rattle.std.specs.Prelude.{◌≡◌};
+// What plans answer: the scalars after a call, and which records go to which places.
+ghost use Rattle.std.specs.Prelude.{◌≡◌, set};
 ghost use Rattle.plans.specs.Delta.{put_at, accepted, pushed, held, counted_core};
 
 use crate::state::Core;
@@ -18,6 +18,17 @@ use types::types::SequenceId;
 pub struct Put<T> {
     pub at: usize,
     pub value: T,
+}
+
+impl<T: Copy> Put<T> {
+    // A place outside the ring stores nothing.
+    pub fn store(self, slots: &mut [T])
+        ensures { slots.new ≡ set slots.old self.at self.value }
+    {
+        if self.at < slots.len() {
+            slots[self.at] = self.value;
+        }
+    }
 }
 
 // The scalars after one push, and what it stores: nothing where the ring is full.

@@ -1,5 +1,5 @@
-// The scalars of a producer, and a plan for each operation: what it answers, the scalars after it, and which records go where.
-// A plan sees the few records that it needs and never an array.
+// The scalars of a producer, and plans: what an operation answers, the scalars after it, and which records go where. A plan sees
+// the few records that it needs and never an array; what drains leave of the scalars is in crate `tables`.
 #![tactic(auto)]
 
 pub mod batch;

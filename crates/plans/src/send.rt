@@ -44,12 +44,12 @@ pub struct Joined {
 }
 
 // The frame record of an entry.
-fn frame_of(id: u64, p: Publish, kind: FrameKind) -> FrameRecord
-    ensures { result ≡ frame_of id p kind }
+pub fn frame_of(sequence_id: SequenceId, p: Publish, kind: FrameKind) -> FrameRecord
+    ensures { result ≡ frame_of sequence_id.0 p kind }
 {
     let uuid = p.uuid;
     FrameRecord {
-        sequence_id: SequenceId(id),
+        sequence_id,
         publish_time: p.publish_time,
         producer_name: p.producer_name,
         uuid,
@@ -101,7 +101,7 @@ impl Core {
     ) -> Emitted
         ensures { result ≡ emitted p kind frames messages bytes self }
     {
-        let frame = frame_of(self.ids.next_sequence_id, p, kind);
+        let frame = frame_of(SequenceId(self.ids.next_sequence_id), p, kind);
         let accepted = self.assign_sequence_id(p);
         let pushed = accepted.core.count(messages, bytes).push(frame, frames);
         Emitted {
@@ -181,16 +181,13 @@ impl Core {
         ensures { result ≡ refused_large before a self }
     {
         let f = self.flush_if(before, a.publish_time);
+        let e = ProducerError::MessageTooLarge {
+            size: a.message.payload.len,
+            max_message_size: self.settings.limits.max_message_size,
+        };
         SendDelta {
-            answer: Err(ProducerError::MessageTooLarge {
-                size: a.message.payload.len,
-                max_message_size: self.settings.limits.max_message_size,
-            }),
-            core: f.core,
             first: f.put,
-            second: None,
-            entry: None,
-            held: None,
+            ..f.core.refuse(e)
         }
     }
 

@@ -15,7 +15,7 @@ use Rattle.queue.specs.Settle.{due_count, unmark, unmark_all, hand_out, drain_ti
 use Rattle.queue.specs.Tables.{drain_pending_sends}
 use Rattle.upkeep.specs.Pending.{cleared_all}
 use Rattle.tables.specs.Drain.{cleared_each, gone_count}
-use Rattle.tables.proofs.Blank.{blank}
+use Rattle.rules.specs.Blank.{no_entry}
 use Rattle.upkeep.proofs.Keys.{length_cleared}
 use Rattle.producer.specs.Tables.{Drains, gone_of, drain_of, plan_of, drained_state}
 use Rattle.producer.specs.View.{view, entries, slots_of}
@@ -137,7 +137,7 @@ left_view s f (Some time) es p e k =
     length_entries 256 s.pending_ids (cleared_each gone s.pending_ids s.pending_marks) s.pending f.ids
     (length_each gone s.pending_ids s.pending_marks ∙ f.marks) f.pending in
     let moved : ring 256 slots (slot 256 h (min p (min n 256))) (min n 256 - min p (min n 256)) ≡ drop p (ring 256 slots h n) =
-    ring_drops 256 (lit< tt) slots len blank h n p in
+    ring_drops 256 (lit< tt) slots len no_entry h n p in
     let all : ring 256 slots h n ≡ unmark_all gone (view s).pending = unmark_ring gone s.pending_ids s.pending_marks s.pending h n in
     let same : drop p (unmark_all gone (view s).pending) ≡ unmark_all (gone_of due (view s)) (drop (count_of due (view s)) (view s).pending) =
     unmark_drop gone p (view s).pending ∙ (λ j. unmark_all (e j) (drop (k j) (view s).pending)) in

@@ -1,4 +1,3 @@
-pub mod Blank
 pub mod Borne
 pub mod Drains
 pub mod Entries

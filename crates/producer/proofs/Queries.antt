@@ -14,7 +14,7 @@ use Rattle.upkeep.specs.Deadline.{maybe_after, has_elapsed, unless_none}
 use Rattle.plans.specs.Ids.{send_deadline_of, batch_deadline_of}
 use Rattle.producer.specs.View.{view, slots_of}
 use Rattle.producer.specs.declared.state.ProducerState.{ProducerState}
-use Rattle.producer.proofs.Blank.{blank}
+use Rattle.rules.specs.Blank.{no_entry}
 use Rattle.producer.proofs.Entries.{entries_at}
 use Rattle.producer.proofs.Full.{Full, slots}
 
@@ -73,10 +73,10 @@ send_deadline_lem s f at q d =
         let lm : at < length s.pending_marks = omega (arith, below, f.marks) in
         let lp : at < length s.pending = omega (arith, below, f.pending) in
         let entry =
-        ap (λ (k : ℕ). get_or (slots_of s) k blank) (sym q) ∙ entries_at s.pending_ids s.pending_marks s.pending at d blank li lm lp in
+        ap (λ (k : ℕ). get_or (slots_of s) k no_entry) (sym q) ∙ entries_at s.pending_ids s.pending_marks s.pending at d no_entry li lm lp in
         pick_false None (after timeout sent) (ne_eqb n 0 (λ z. omega arith))
         ∙ sym
-        (ap (front_deadline timeout) (ring_pop 256 (lit< tt) (slots_of s) (slots s f) blank h n (omega arith))
+        (ap (front_deadline timeout) (ring_pop 256 (lit< tt) (slots_of s) (slots s f) no_entry h n (omega arith))
         ∙ ap (λ (op : OpSend). after timeout op.publish.enqueued_at) entry)
     go (no b) =
         let z : n ≡ 0 = omega arith in

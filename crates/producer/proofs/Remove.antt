@@ -13,7 +13,7 @@ use Rattle.plans.specs.Settle.{core_without}
 use Rattle.producer.specs.View.{view, slots_of}
 use Rattle.producer.specs.Settle.{with_slots, GapClosed}
 use Rattle.producer.specs.declared.state.ProducerState.{ProducerState}
-use Rattle.producer.proofs.Blank.{blank}
+use Rattle.rules.specs.Blank.{no_entry}
 use Rattle.producer.proofs.Full.{Full, slots}
 use Rattle.producer.proofs.Listed.{few_pending}
 use Rattle.producer.proofs.Scalars.{with_core}
@@ -40,7 +40,7 @@ module _ (s : ProducerState) (place : ℕ) where
       let n = s.core.rings.pending.len in
       removed s refl
       (ap (λ (r : Ring 256). ring 256 (slots_of s) r.head r.len) (pick_true (without_front 256 1 s.core.rings.pending) (record { head = h; len = min n 256 - 1 }) (eq-eqb place 0 z))
-      ∙ ring_drops 256 (lit< tt) (slots_of s) (slots s f) blank h n 1
+      ∙ ring_drops 256 (lit< tt) (slots_of s) (slots s f) no_entry h n 1
       ∙ ap (λ (k : ℕ). without (ring 256 (slots_of s) h n) k) (sym z))
 
   pub removed_later : (t : ProducerState) → (place ≡ 0 → ⊥) → GapClosed place s t

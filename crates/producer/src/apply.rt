@@ -9,18 +9,16 @@ use types::frame::FrameRecord;
 use types::message::SingleMessage;
 
 impl ProducerState {
-    pub fn store_frame(&mut self, put: Option<Put<FrameRecord>>)
+    pub(crate) fn store_frame(&mut self, put: Option<Put<FrameRecord>>)
         ensures { self.new ≡ store_frame put self.old }
     {
         if let Some(p) = put {
-            if p.at < self.outbound.len() {
-                self.outbound[p.at] = p.value;
-            }
+            p.store(&mut self.outbound);
         }
     }
 
     // The three parts of an entry go to one place.
-    pub fn store_entry(&mut self, put: Option<Put<OpSend>>)
+    pub(crate) fn store_entry(&mut self, put: Option<Put<OpSend>>)
         ensures { self.new ≡ store_entry put self.old }
     {
         if let Some(p) = put {
@@ -32,24 +30,22 @@ impl ProducerState {
         }
     }
 
-    pub fn store_held(&mut self, put: Option<Put<SingleMessage>>)
+    fn store_held(&mut self, put: Option<Put<SingleMessage>>)
         ensures { self.new ≡ store_held put self.old }
     {
         if let Some(p) = put {
-            if p.at < self.held.len() {
-                self.held[p.at] = p.value;
-            }
+            p.store(&mut self.held);
         }
     }
 
-    pub(crate) fn apply(mut self, d: SendDelta) -> Self
-        ensures { result ≡ applied d self }
+    // The scalars last: what reads them next need not wait for the records.
+    pub fn apply(&mut self, d: SendDelta)
+        ensures { self.new ≡ applied d self.old }
     {
-        self.core = d.core;
         self.store_frame(d.first);
         self.store_frame(d.second);
         self.store_entry(d.entry);
         self.store_held(d.held);
-        self
+        self.core = d.core;
     }
 }

@@ -10,11 +10,18 @@ use upkeep::deadline::elapsed;
 use upkeep::stats::{outbound_len_of, stats_of};
 
 impl ProducerState {
-    pub fn next_send_deadline(self) -> Option<u64>
-        ensures { result ≡ next_send_deadline (view self) }
+    pub fn send_deadline(&self) -> Option<u64>
+        ensures { result ≡ next_send_deadline (view self.now) }
     {
         let at = self.core.rings.pending.slot(0);
         self.core.next_send_deadline(self.pending[at].enqueued_at)
+    }
+
+    // The same for a state by value.
+    pub fn next_send_deadline(self) -> Option<u64>
+        ensures { result ≡ next_send_deadline (view self) }
+    {
+        self.send_deadline()
     }
 
     pub fn next_batch_deadline(self) -> Option<u64>
@@ -46,6 +53,6 @@ impl ProducerState {
     pub fn stats(self) -> ProducerStats
         ensures { result ≡ stats (view self) }
     {
-        stats_of(self.core.counters, self.core.rings.pending.len)
+        stats_of(self.core.counters, self.core.rings.pending)
     }
 }

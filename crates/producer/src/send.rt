@@ -10,6 +10,7 @@ use crate::answer::Answered;
 use crate::state::ProducerState;
 use plans::send::Sending;
 use types::answer::SendDecision;
+use types::error::ProducerError;
 use types::memory_limit::MemoryReservation;
 use types::message::OutgoingMessage;
 
@@ -35,15 +36,16 @@ impl ProducerState {
             now: time,
         };
         let d = self.core.plan_send(store.len(), a);
+        self.apply(d);
         Answered {
             answer: d.answer,
-            state: self.apply(d),
+            state: self,
         }
     }
 
     // The same with nothing reserved.
     pub fn queue_send(
-        mut self,
+        self,
         store: &[u8],
         message: OutgoingMessage,
         uuid: [u8; 16],
@@ -57,16 +59,24 @@ impl ProducerState {
         self.queue_send_reserved(store, message, none, uuid, publish_time, time)
     }
 
-    // The count of frames made, 0 or 1. As in the Rust the time of the call is not used.
+    // The count of frames made, 0 or 1.
+    pub fn flush(&mut self, publish_time: u64) -> Result<usize, ProducerError>
+        ensures answer_value { (view self.new, told result) ≡ flush_batch publish_time (view self.old) }
+        ensures kept { Kept (told result) self.old self.new }
+    {
+        let d = self.core.plan_flush(publish_time);
+        self.store_frame(d.frame);
+        self.core = d.core;
+        d.answer
+    }
+
+    // The same for a state by value. As in the Rust the time of the call is not used.
     pub fn flush_batch(mut self, publish_time: u64, _now: u64) -> Answered<usize>
         ensures answer_value { (view result.state, told result.answer) ≡ flush_batch publish_time (view self) }
         ensures kept { Kept (told result.answer) self result.state }
     {
-        let d = self.core.plan_flush(publish_time);
-        self.core = d.core;
-        self.store_frame(d.frame);
         Answered {
-            answer: d.answer,
+            answer: self.flush(publish_time),
             state: self,
         }
     }

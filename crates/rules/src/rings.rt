@@ -121,9 +121,9 @@ impl Rings {
     pub const PENDING: usize = 256;
 }
 
-// 4 and 7: more records than a ring has slots, those that it holds and those to come.
-pub fn too_many<const N: usize>(held: usize, more: usize) -> bool
-    ensures { result ≡ ltb N (held + more) }
+// 4 and 7: together they are more than N, those that are there and those to come.
+pub fn too_many<const N: usize>(some: usize, more: usize) -> bool
+    ensures { result ≡ ltb N (some + more) }
 {
-    if more <= N { N - more < held } else { true }
+    if more <= N { N - more < some } else { true }
 }

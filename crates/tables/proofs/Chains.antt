@@ -38,12 +38,3 @@ due_while time timeout l = length-prefix_len (is_due time timeout) l ∙ go l
     go : (ops : List OpSend) → prefix_len (is_due time timeout) ops ≡ due_count time timeout ops
     go [] = refl
     go (op ∷ ops) = next (is_due time timeout op) (prefix_len (is_due time timeout) ops) (due_count time timeout ops) (go ops)
-
--- the first entries of a table, as many as an array of 256 takes
-pub loaded : (t b : List OpSend) (n : ℕ) → n ≡ min (length t) 256 → take (min (length t) 256) (take n t ++ drop n b) ≡ take 256 t
-loaded t b n e =
-    let k : n ≡ min 256 (length t) = omega (arith, e) in
-    ap (λ (i : ℕ). take i (take n t ++ drop n b)) (sym e)
-    ∙ take_at (take n t) (drop n b) n (length-take-le n t (omega (arith, e)))
-    ∙ ap (λ (i : ℕ). take i t) k
-    ∙ take_min 256 t

@@ -3,6 +3,7 @@ ghost use Rattle.std.specs.Prelude.{◌≡◌};
 ghost use Rattle.queue.specs.Tables.{is_batched, frames_of, kind_again, again, well_formed_as, all_well_formed};
 ghost use Rattle.tables.specs.Again.{unless_batched};
 
+use plans::send::frame_of;
 use rules::bounds::within_bounds;
 use rules::chunks::compute_total_chunks;
 use types::entry::{OpSend, Replay};
@@ -48,16 +49,7 @@ fn kind_again(replay: Replay) -> Option<FrameKind>
 pub fn again(op: OpSend) -> Option<FrameRecord>
     ensures { result ≡ unless_batched op.publish.replay (again op) }
 {
-    let publish = op.publish;
-    let uuid = publish.uuid;
-    kind_again(publish.replay).map(|kind| FrameRecord {
-        sequence_id: op.sequence_id,
-        publish_time: publish.publish_time,
-        producer_name: publish.producer_name,
-        uuid,
-        message: publish.message,
-        kind,
-    })
+    kind_again(op.publish.replay).map(|kind| frame_of(op.sequence_id, op.publish, kind))
 }
 
 // 12. The message's bounds and the chunk count matter where the entry has frames.
@@ -78,7 +70,7 @@ pub fn well_formed(op: OpSend) -> bool
     }
 }
 
-// 12, of a whole table: also of the entries past those that a replay takes.
+// 12, of a whole table: also of one that 7 would refuse by its length.
 pub fn all_well_formed(table: &[OpSend]) -> bool
     ensures { result ≡ all_well_formed table.now }
 {

@@ -31,10 +31,6 @@ length_cleared id [] ms = refl
 length_cleared id (i ∷ is) [] = refl
 length_cleared id (i ∷ is) (m ∷ ms) = ap suc (length_cleared id is ms)
 
-pub none_cleared : (id : ℕ) (is : List ℕ) → cleared_all id is [] ≡ []
-none_cleared id [] = refl
-none_cleared id (i ∷ is) = refl
-
 -- the loop that clears: the marks up to i are done, and the rest is to come
 abbrev pub Clearing : ℕ → List ℕ → List ℕ → List ℕ → ℕ → Type 0
 Clearing id is ms₀ ms i = take i ms ++ cleared_all id (drop i is) (drop i ms) ≡ cleared_all id is ms₀

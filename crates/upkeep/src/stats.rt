@@ -4,17 +4,17 @@ ghost use Rattle.queue.specs.Queue.{new_ids};
 ghost use Rattle.queue.specs.Ids.{published};
 ghost use Rattle.upkeep.specs.Stats.{initial_ids, stats_of};
 
-use rules::rings::Rings;
+use rules::rings::{Ring, Rings};
 use types::signed::{saturating_sub_one, signed_of};
 use types::stats::{Counters, ProducerStats, SequenceIds};
 
-// With so many entries in a ring of 256.
-pub fn stats_of(counters: Counters, pending_len: usize) -> ProducerStats
-    ensures { result ≡ stats_of counters pending_len }
+// With the entries that a ring holds.
+pub fn stats_of(counters: Counters, pending: Ring<256>) -> ProducerStats
+    ensures { result ≡ stats_of counters pending.len }
 {
     ProducerStats {
         counters,
-        pending_queue_size: pending_len.min(Rings::PENDING) as u64,
+        pending_queue_size: pending.count() as u64,
     }
 }
 
