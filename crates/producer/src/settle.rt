@@ -1,7 +1,6 @@
 // Receipts and errors (document 01, 'receipts, errors, snapshot, replay').
 ghost use Rattle.std.specs.Prelude.{◌≡◌, ◌<◌, min, map, length};
-ghost use Rattle.laws.specs.Ring.{ring};
-ghost use Rattle.upkeep.specs.Pending.{keys, located};
+ghost use Rattle.upkeep.specs.Pending.{searched, located};
 ghost use Rattle.laws.specs.Lists.{without};
 ghost use Rattle.queue.specs.Queue.{with_pending};
 ghost use Rattle.queue.specs.Settle.{apply_receipt, apply_send_error};
@@ -50,7 +49,7 @@ impl ProducerState {
     // behind a `&mut` the check tells a function the lengths of four arrays.
     pub fn place_of(&self, id: u64) -> Option<usize>
         ensures marks { length self.now.pending_marks ≡ 256 }
-        ensures place { result ≡ located id (ring 256 (keys self.now.pending_ids self.now.pending_marks) self.now.core.rings.pending.head self.now.core.rings.pending.len) }
+        ensures place { result ≡ located id (searched self.now.pending_ids self.now.pending_marks self.now.core.rings.pending) }
     {
         let index = Index {
             ids: &self.pending_ids,

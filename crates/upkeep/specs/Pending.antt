@@ -2,6 +2,8 @@
 use Rattle.std.specs.Prelude.{ℕ, Bool, true, false, not, ◌&&◌, ◌||◌, List, [], ◌∷◌, eqb, None, Option, Some}
 use Rattle.laws.specs.Choice.{pick}
 use Rattle.laws.specs.Lists.{first_at}
+use Rattle.laws.specs.Ring.{ring}
+use Rattle.rules.specs.declared.rings.Ring.{Ring}
 
 -- an id, and whether its entry keeps it in the index
 abbrev pub Key : Type 0
@@ -11,6 +13,10 @@ abbrev pub keys : List ℕ → List ℕ → List Key
 keys [] ms = []
 keys (i ∷ is) [] = []
 keys (i ∷ is) (m ∷ ms) = (i, not (eqb m 0)) ∷ keys is ms
+
+-- those that a ring of entries holds
+abbrev pub searched : List ℕ → List ℕ → Ring 256 → List Key
+searched is ms r = ring 256 (keys is ms) r.head r.len
 
 -- it bears the id, and is marked unless any will do
 abbrev pub wanted : ℕ → Bool → Key → Bool

@@ -1,8 +1,7 @@
 // The ids of the pending entries and their marks: what is searched. An id is in the Rust's `pending_index` when an entry that
 // bears it is marked (not 0).
 ghost use Rattle.std.specs.Prelude.{◌≡◌, ◌&&◌, ◌||◌, not, eqb, length};
-ghost use Rattle.laws.specs.Ring.{ring};
-ghost use Rattle.upkeep.specs.Pending.{keys, wanted, place_of, located, cleared_all};
+ghost use Rattle.upkeep.specs.Pending.{searched, wanted, place_of, located, cleared_all};
 
 use rules::rings::Ring;
 
@@ -24,7 +23,7 @@ pub struct Index<'a> {
 impl<'a> Index<'a> {
     // The search stops at the first entry that bears the id, or, unless `any` will do, at the first that does and is marked.
     fn find(self, id: u64, any: bool) -> Option<usize>
-        ensures { result ≡ place_of (wanted id any) (ring 256 (keys self.entry.ids.now self.entry.marks.now) self.entry.ring.head self.entry.ring.len) }
+        ensures { result ≡ place_of (wanted id any) (searched self.entry.ids.now self.entry.marks.now self.entry.ring) }
     {
         for i in 0..self.ring.count() {
             let at = self.ring.slot(i);
@@ -37,7 +36,7 @@ impl<'a> Index<'a> {
 
     // The place of the first entry that bears the id, if the id is answerable.
     pub fn locate(self, id: u64) -> Option<usize>
-        ensures { result ≡ located id (ring 256 (keys self.entry.ids.now self.entry.marks.now) self.entry.ring.head self.entry.ring.len) }
+        ensures { result ≡ located id (searched self.entry.ids.now self.entry.marks.now self.entry.ring) }
     {
         self.find(id, false)?;
         self.find(id, true)
