@@ -7,25 +7,20 @@ use rules::batch::single_of;
 use std::io;
 
 impl<P: Print> Tour<'_, P> {
-    // The message that was sent under a number.
-    fn sent(&self, id: u64) -> Message<'_> {
-        let m = story::message(id);
-        Message::at(self.store, &single_of(m), m.txn_id)
-    }
-
     pub fn compare(&self) -> io::Result<()> {
         let Some(read) = read_all(&self.taken) else {
             return println!(self.out; "a frame has no reading");
         };
-        let len = read.len() as u64;
-        let mut same = len == story::MESSAGES;
-        for (id, m) in (1..).zip(read.iter()) {
+        let sent = story::messages();
+        let len = read.len();
+        let mut same = len == sent.len();
+        for (id, (m, (_, s))) in (1u64..).zip(read.iter().zip(sent)) {
             show::message(self.out, id, m)?;
-            same &= *m == self.sent(id);
+            same &= *m == Message::at(self.store, &single_of(s), s.txn_id);
         }
         println!(self.out;
             "{} messages sent, {len} read, the same in every field and in order: {}",
-            story::MESSAGES,
+            sent.len(),
             if same { "yes" } else { "no" }
         )
     }

@@ -47,16 +47,9 @@ impl<P: Print> Tour<'_, P> {
 
     // In their order.
     pub fn send_all(&mut self) -> io::Result<()> {
-        for id in 1..=story::MESSAGES {
-            let what = match id {
-                1 | 2 => "a quote",
-                3 => "a quote taken back,",
-                4 => "the rate table",
-                5 => "a replicated quote",
-                _ => "in a transaction,",
-            };
+        for (id, (what, m)) in (1u64..).zip(story::messages()) {
             print!(self.out; "message {id}, {what}")?;
-            self.send(story::message(id))?;
+            self.send(m)?;
         }
         Ok(())
     }

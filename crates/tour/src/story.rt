@@ -7,9 +7,6 @@ use types::settings::Setting;
 use types::txn::TxnId;
 use types::types::{MessageId, ProducerHandle};
 
-// How many messages there are. They are numbered from 1, as their sequence ids are.
-pub const MESSAGES: u64 = 7;
-
 // Payload length above which a message goes out in chunks.
 pub const MESSAGE_LIMIT: usize = 50;
 
@@ -108,16 +105,17 @@ fn summary() -> OutgoingMessage {
     }
 }
 
-pub fn message(id: u64) -> OutgoingMessage {
-    match id {
-        1 => quote(),
-        2 => row(32, 5, 18),
-        3 => withdrawal(),
-        4 => row(160, 5, 110),
-        5 => replicated_quote(),
-        6 => acceptance(),
-        _ => summary(),
-    }
+// The messages in their order, and what each is. They are numbered from 1, as their sequence ids are.
+pub fn messages() -> [(&'static str, OutgoingMessage); 7] {
+    [
+        ("a quote", quote()),
+        ("a quote", row(32, 5, 18)),
+        ("a quote taken back,", withdrawal()),
+        ("the rate table", row(160, 5, 110)),
+        ("a replicated quote", replicated_quote()),
+        ("in a transaction,", acceptance()),
+        ("in a transaction,", summary()),
+    ]
 }
 
 // A mistake: the store ends before it does.

@@ -50,8 +50,8 @@ impl Taken {
         Some(part)
     }
 
-    // A frame more, whose payload is in the bytes already. What finds no room is left out.
-    fn keep(&mut self, store: &[u8], f: &OutboundFrame) {
+    // A frame more, whose payload is in the bytes already: its part of them. What finds no room is left out.
+    fn keep(&mut self, store: &[u8], f: &OutboundFrame) -> Part {
         let payload = Part {
             start: self.payloads,
             len: f.payload_len,
@@ -61,6 +61,7 @@ impl Taken {
         self.payloads = self.payloads.saturating_add(f.payload_len);
         let frame = Frame::of(&f.metadata, payload, partition_key, ordering_key);
         self.frames.push(frame);
+        payload
     }
 }
 
@@ -73,11 +74,7 @@ impl<P: Print> Tour<'_, P> {
         self.state = r.state;
         match r.answer {
             Ok(f) => {
-                let payload = Part {
-                    start: self.taken.payloads,
-                    len: f.payload_len,
-                };
-                self.taken.keep(self.store, &f);
+                let payload = self.taken.keep(self.store, &f);
                 let place = self.taken.frames.len();
                 show::frame(self.out, place, &f, bytes_at(&self.taken.bytes, payload))
             }
