@@ -65,7 +65,7 @@ fn room_at(place: Place) -> usize
 }
 
 #[inline(never)]
-fn call_drain(s: &ProducerState, task: Task, out: &mut Output) -> ProducerState
+pub(crate) fn call_drain(s: &ProducerState, task: Task, out: &mut Output) -> ProducerState
     ensures { Writes out.old out.new }
 {
     let mut table = blank_table();
@@ -81,9 +81,9 @@ fn call_drain(s: &ProducerState, task: Task, out: &mut Output) -> ProducerState
     r.state
 }
 
-// A snapshot that is refused leaves the table of the one before.
+// `last` has the replay table of the last snapshot. One that is refused leaves it.
 #[inline(never)]
-fn call_snapshot(
+pub(crate) fn call_snapshot(
     s: &ProducerState,
     last: &mut Entries,
     task: Task,
@@ -114,7 +114,7 @@ fn call_snapshot(
 }
 
 #[inline(never)]
-fn call_replay(s: &ProducerState, last: &Entries, task: Task, out: &mut Output) -> ProducerState
+pub(crate) fn call_replay(s: &ProducerState, last: &Entries, task: Task, out: &mut Output) -> ProducerState
     ensures { Writes out.old out.new }
 {
     let r = if task.call == Call::ReplaySnapshots {
@@ -125,32 +125,4 @@ fn call_replay(s: &ProducerState, last: &Entries, task: Task, out: &mut Output) 
     };
     out.put((task.call, r.answer));
     r.state
-}
-
-pub(crate) fn is_lent(call: Call) -> bool {
-    matches!(
-        call,
-        Call::DrainTimedOutSends
-            | Call::DrainPendingSends
-            | Call::SnapshotPendingSends
-            | Call::ReplaySnapshots
-            | Call::ReplayLastSnapshot
-    )
-}
-
-// `last` has the replay table of the last snapshot.
-#[inline(never)]
-pub(crate) fn call_lent(
-    s: &ProducerState,
-    last: &mut Entries,
-    task: Task,
-    out: &mut Output,
-) -> ProducerState
-    ensures { Writes out.old out.new }
-{
-    match task.call {
-        Call::DrainTimedOutSends | Call::DrainPendingSends => call_drain(s, task, out),
-        Call::SnapshotPendingSends => call_snapshot(s, last, task, out),
-        _ => call_replay(s, last, task, out),
-    }
 }

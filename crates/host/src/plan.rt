@@ -1,42 +1,18 @@
-// The operations that need no ring, on the scalars: settings, ids, queries and the flush; and what a receipt or an error does to
-// the ids. The same plans as those of the public methods.
+// The operations that need no ring, on the scalars: settings, ids and queries; and what a receipt or an error does to the ids.
+// The same plans as those of the public methods.
 ghost use Rattle.script.specs.Output.{Writes};
 
 use crate::task::Task;
-use plans::delta::Put;
 use plans::state::Core;
 use script::answer::put_done;
 use script::operation::Call;
 use script::write::Output;
 use types::command::{CommandSendError, CommandSendReceipt};
 use types::error::ProducerError;
-use types::frame::FrameRecord;
 use types::stats::SequenceIds;
 use types::types::MessageId;
 use upkeep::deadline::elapsed;
 use upkeep::stats::{outbound_len_of, published_ids, stats_of};
-
-// The scalars after an operation, and the frame that it pushes, if any.
-#[derive(Clone, Copy)]
-pub(crate) struct Planned {
-    pub core: Core,
-    pub frame: Option<Put<FrameRecord>>,
-}
-
-fn scalars(core: Core) -> Planned {
-    Planned { core, frame: None }
-}
-
-fn plan_flush(c: Core, task: Task, out: &mut Output) -> Planned
-    ensures { Writes out.old out.new }
-{
-    let d = c.plan_flush(task.arguments.get());
-    out.put((task.call, d.answer));
-    Planned {
-        core: d.core,
-        frame: d.frame,
-    }
-}
 
 // A refusal leaves the scalars.
 fn plan_set(c: Core, plan: Result<Core, ProducerError>, call: Call, out: &mut Output) -> Core
@@ -69,16 +45,16 @@ fn plan_query(c: Core, enqueued_at: u64, task: Task, out: &mut Output)
     }
 }
 
-pub(crate) fn plan(c: Core, enqueued_at: u64, task: Task, out: &mut Output) -> Planned
+// The scalars after an operation.
+pub(crate) fn plan(c: Core, enqueued_at: u64, task: Task, out: &mut Output) -> Core
     ensures { Writes out.old out.new }
 {
     match task.call {
-        Call::FlushBatch => plan_flush(c, task, out),
         Call::SetInitialSequenceId => {
             put_done(out, task.call, ());
-            scalars(c.set_initial_sequence_id(task.arguments.get()))
+            c.set_initial_sequence_id(task.arguments.get())
         }
-        Call::SetName => scalars(plan_set(c, c.set_name(task.name()), task.call, out)),
+        Call::SetName => plan_set(c, c.set_name(task.name()), task.call, out),
         Call::SetMaxMessageSize
         | Call::SetMaxBatchSizeBytes
         | Call::SetMaxMessagesInBatch
@@ -86,14 +62,14 @@ pub(crate) fn plan(c: Core, enqueued_at: u64, task: Task, out: &mut Output) -> P
         | Call::SetChunkingEnabled
         | Call::SetSendTimeout
         | Call::SetBatchingMaxPublishDelay
-        | Call::SetBrokerReady => { scalars(plan_set(c, c.set(task.setting()), task.call, out)) }
+        | Call::SetBrokerReady => plan_set(c, c.set(task.setting()), task.call, out),
         Call::Close => {
             put_done(out, task.call, ());
-            scalars(c.close())
+            c.close()
         }
         _ => {
             plan_query(c, enqueued_at, task, out);
-            scalars(c)
+            c
         }
     }
 }
