@@ -192,24 +192,14 @@ impl Put for CommandSend {
     }
 }
 
-fn put_frame_name(out: &mut Output, store: &[u8], name: FrameName)
-    ensures { Writes out.old out.new }
-{
-    if name.own.len == 0 {
-        out.put(name.producer);
-    } else {
-        out.put(Stored {
-            store,
-            part: name.own,
-        });
-    }
-}
-
 // The metadata in the order of its tags, a few at a time.
 fn put_metadata_start(out: &mut Output, store: &[u8], m: MessageMetadata)
     ensures { Writes out.old out.new }
 {
-    put_frame_name(out, store, m.producer_name);
+    match m.producer_name {
+        FrameName::Own(part) => out.put(Stored { store, part }),
+        FrameName::Producer(name) => out.put(name),
+    }
     out.put((m.sequence_id, m.publish_time));
     out.put(m.partition_key.map(|part| Stored { store, part }));
     out.put((
