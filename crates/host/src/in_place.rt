@@ -1,6 +1,6 @@
 // Each operation by the plan of its public method, applied where the state stands: no ring is copied but for the operations on
 // whole tables and the dump (docs/DECISIONS.md, 'What a call costs').
-ghost use Rattle.std.specs.Prelude.{◌<◌, ◌≤◌, length};
+ghost use Rattle.std.specs.Prelude.{◌≤◌, length};
 ghost use Rattle.script.specs.Output.{Writes};
 
 use crate::call::call;
@@ -10,12 +10,10 @@ use crate::run::Drive;
 use crate::take::{buffer_of, put_taken};
 use crate::task::Task;
 use producer::state::ProducerState;
-use rules::rings::head_after;
 use script::operation::Call;
 use script::write::Output;
 use types::error::ProducerError;
 use types::types::ProducerHandle;
-use upkeep::pending::Index;
 
 // Sends count their ids up from 0. Two entries can bear one id only once a first id was set or entries were replayed.
 fn repeats_ids(call: Call) -> bool {
@@ -23,14 +21,6 @@ fn repeats_ids(call: Call) -> bool {
         call,
         Call::ReplaySnapshots | Call::ReplayLastSnapshot | Call::SetInitialSequenceId
     )
-}
-
-// A place of a ring of `n` that begins at `head`.
-fn slot(n: usize, head: usize, i: usize) -> usize
-    requires { (0 < n) × (n ≤ 1024) }
-    ensures { result < n }
-{
-    (head % n + i % n) % n
 }
 
 #[derive(Drop)]
@@ -80,10 +70,9 @@ impl InPlace {
 
     // No entry in front of this place bears the id.
     fn unmark(&mut self, id: u64, place: usize) {
-        let head = self.state.core.rings.pending.head;
-        let n = self.state.core.rings.pending.len.min(256);
-        for i in place..n {
-            let at = slot(256, head, i);
+        let ring = self.state.core.rings.pending;
+        for i in place..ring.count() {
+            let at = ring.slot(i);
             if self.state.pending_ids[at] == id {
                 self.state.pending_marks[at] = 0;
             }
@@ -92,11 +81,10 @@ impl InPlace {
 
     // The entries behind a place move up by one.
     fn close_gap(&mut self, place: usize) {
-        let head = self.state.core.rings.pending.head;
-        let n = self.state.core.rings.pending.len.min(256);
-        for i in place..n.saturating_sub(1) {
-            let from = slot(256, head, i + 1);
-            let to = slot(256, head, i);
+        let ring = self.state.core.rings.pending;
+        for i in place..ring.count().saturating_sub(1) {
+            let from = ring.slot(i + 1);
+            let to = ring.slot(i);
             self.state.pending[to] = self.state.pending[from];
             self.state.pending_ids[to] = self.state.pending_ids[from];
             self.state.pending_marks[to] = self.state.pending_marks[from];
@@ -110,26 +98,18 @@ impl InPlace {
         if 0 < place {
             self.close_gap(place);
         }
-        let pending = self.state.core.rings.pending;
-        self.state.core.rings.pending.head = head_after(pending.head, place);
-        self.state.core.rings.pending.len = pending.len.min(256).saturating_sub(1);
+        self.state.core.rings.pending = self.state.core.rings.pending.without(place);
     }
 
     fn settle(&mut self, task: Task, out: &mut Output)
         ensures { Writes out.old out.new }
     {
         let id = task.arguments.behind(8).get();
-        let ring = self.state.core.rings.pending;
-        let index = Index {
-            ids: &self.state.pending_ids,
-            marks: &self.state.pending_marks,
-            ring,
-        };
-        match index.locate(id) {
+        match self.state.place_of(id) {
             Some(place) => {
+                let at = self.state.core.rings.pending.slot(place);
                 put_settled(task, out);
-                out.put(id);
-                out.put(self.state.pending[slot(256, ring.head, place)]);
+                out.put((id, self.state.pending[at]));
                 self.remove(id, place);
                 self.state.core.ids = settled_ids(self.state.core.ids, task.call, id);
             }
@@ -141,7 +121,7 @@ impl InPlace {
         ensures { Writes out.old out.new }
     {
         let core = self.state.core;
-        let front = core.rings.pending.head % 256;
+        let front = core.rings.pending.slot(0);
         let enqueued_at = self.state.pending[front].enqueued_at;
         self.state.core = plan(core, enqueued_at, task, out);
     }
