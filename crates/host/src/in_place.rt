@@ -5,7 +5,7 @@ ghost use Rattle.script.specs.Output.{Writes};
 
 use crate::call::call;
 use crate::lent::Entries;
-use crate::plan::{plan, put_settled, settled_ids};
+use crate::plan::{plan, put_settled};
 use crate::run::Drive;
 use crate::take::{buffer_of, put_taken};
 use crate::task::Task;
@@ -14,6 +14,8 @@ use script::operation::Call;
 use script::write::Output;
 use types::error::ProducerError;
 use types::types::ProducerHandle;
+use upkeep::pending::unmark;
+use upkeep::stats::published_ids;
 
 // Sends count their ids up from 0. Two entries can bear one id only once a first id was set or entries were replayed.
 fn repeats_ids(call: Call) -> bool {
@@ -68,39 +70,7 @@ impl InPlace {
         put_taken(out, buffer, lent, answer);
     }
 
-    // No entry in front of this place bears the id.
-    fn unmark(&mut self, id: u64, place: usize) {
-        let ring = self.state.core.rings.pending;
-        for i in place..ring.count() {
-            let at = ring.slot(i);
-            if self.state.pending_ids[at] == id {
-                self.state.pending_marks[at] = 0;
-            }
-        }
-    }
-
-    // The entries behind a place move up by one.
-    fn close_gap(&mut self, place: usize) {
-        let ring = self.state.core.rings.pending;
-        for i in place..ring.count().saturating_sub(1) {
-            let from = ring.slot(i + 1);
-            let to = ring.slot(i);
-            self.state.pending[to] = self.state.pending[from];
-            self.state.pending_ids[to] = self.state.pending_ids[from];
-            self.state.pending_marks[to] = self.state.pending_marks[from];
-        }
-    }
-
-    fn remove(&mut self, id: u64, place: usize) {
-        if self.repeated {
-            self.unmark(id, place);
-        }
-        if 0 < place {
-            self.close_gap(place);
-        }
-        self.state.core.rings.pending = self.state.core.rings.pending.without(place);
-    }
-
+    // The first entry that bears the id is answered where it stands, and leaves.
     fn settle(&mut self, task: Task, out: &mut Output)
         ensures { Writes out.old out.new }
     {
@@ -110,8 +80,13 @@ impl InPlace {
                 let at = self.state.core.rings.pending.slot(place);
                 put_settled(task, out);
                 out.put((id, self.state.pending[at]));
-                self.remove(id, place);
-                self.state.core.ids = settled_ids(self.state.core.ids, task.call, id);
+                if self.repeated {
+                    unmark(&mut self.state.pending_marks, &self.state.pending_ids, id);
+                }
+                self.state.remove(place);
+                if task.call == Call::ApplyReceipt {
+                    self.state.core.ids = published_ids(self.state.core.ids, id);
+                }
             }
             None => out.put((task.call, ProducerError::NotAnswerable)),
         }

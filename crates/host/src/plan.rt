@@ -1,4 +1,4 @@
-// The operations that need no ring, on the scalars: settings, ids and queries; and what a receipt or an error does to the ids.
+// The operations that need no ring, on the scalars: settings, ids and queries.
 // The same plans as those of the public methods.
 ghost use Rattle.script.specs.Output.{Writes};
 
@@ -9,10 +9,9 @@ use script::operation::Call;
 use script::write::Output;
 use types::command::{CommandSendError, CommandSendReceipt};
 use types::error::ProducerError;
-use types::stats::SequenceIds;
 use types::types::MessageId;
 use upkeep::deadline::elapsed;
-use upkeep::stats::{outbound_len_of, published_ids, stats_of};
+use upkeep::stats::{outbound_len_of, stats_of};
 
 // A refusal leaves the scalars.
 fn plan_set(c: Core, plan: Result<Core, ProducerError>, call: Call, out: &mut Output) -> Core
@@ -75,15 +74,6 @@ pub(crate) fn plan(c: Core, enqueued_at: u64, task: Task, out: &mut Output) -> C
 }
 
 // ---- receipts and errors ----
-
-// The ids once an entry has left by a receipt or by an error.
-pub(crate) fn settled_ids(ids: SequenceIds, call: Call, id: u64) -> SequenceIds {
-    if call == Call::ApplyReceipt {
-        published_ids(ids, id)
-    } else {
-        ids
-    }
-}
 
 // What an answer has in front of the entry that left: the message id of a receipt, or the error's code.
 pub(crate) fn put_settled(task: Task, out: &mut Output)
