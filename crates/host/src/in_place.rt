@@ -92,6 +92,15 @@ impl InPlace {
         }
     }
 
+    // On its own, since its frame, with a whole state in it, is cleared at each call.
+    #[inline(never)]
+    fn by_value(&mut self, task: Task, out: &mut Output)
+        requires { out.old.at ≤ length out.old.bytes.now }
+        ensures { Writes out.old out.new }
+    {
+        self.state = call(&self.state, &mut self.last, task, out);
+    }
+
     fn on_scalars(&mut self, task: Task, out: &mut Output)
         ensures { Writes out.old out.new }
     {
@@ -125,7 +134,7 @@ impl Drive for InPlace {
             | Call::ReplayLastSnapshot
             | Call::ReplayPendingOutbound
             | Call::Dump => {
-                self.state = call(&self.state, &mut self.last, task, out);
+                self.by_value(task, out)
             }
             _ => self.on_scalars(task, out),
         }
