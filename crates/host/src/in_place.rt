@@ -79,7 +79,8 @@ impl InPlace {
             Some(place) => {
                 let at = self.state.core.rings.pending.slot(place);
                 put_settled(task, out);
-                out.put((id, self.state.pending[at]));
+                out.put(id);
+                out.put(self.state.pending[at]);
                 if self.repeated {
                     unmark(&mut self.state.pending_marks, &self.state.pending_ids, id);
                 }
