@@ -5,7 +5,7 @@ ghost use Rattle.script.specs.Output.{Writes};
 
 use crate::call::call;
 use crate::lent::Entries;
-use crate::plan::{plan, put_settled};
+use crate::plan::{put_settled, query, scalars};
 use crate::run::Drive;
 use crate::take::{buffer_of, put_taken};
 use crate::task::Task;
@@ -42,20 +42,14 @@ impl InPlace {
             .core
             .plan_send(task.lent_to_send().len(), task.sending());
         out.put((task.call, d.answer));
-        self.state.store_frame(d.first);
-        self.state.store_frame(d.second);
-        self.state.store_entry(d.entry);
-        self.state.store_held(d.held);
-        self.state.core = d.core;
+        self.state.apply(d);
     }
 
     fn flush(&mut self, task: Task, out: &mut Output)
         ensures { Writes out.old out.new }
     {
-        let d = self.state.core.plan_flush(task.arguments.get());
-        out.put((task.call, d.answer));
-        self.state.store_frame(d.frame);
-        self.state.core = d.core;
+        let answer = self.state.flush(task.arguments.get());
+        out.put((task.call, answer));
     }
 
     fn take(&mut self, task: Task, out: &mut Output)
@@ -101,15 +95,6 @@ impl InPlace {
     {
         self.state = call(&self.state, &mut self.last, task, out);
     }
-
-    fn on_scalars(&mut self, task: Task, out: &mut Output)
-        ensures { Writes out.old out.new }
-    {
-        let core = self.state.core;
-        let front = core.rings.pending.slot(0);
-        let enqueued_at = self.state.pending[front].enqueued_at;
-        self.state.core = plan(core, enqueued_at, task, out);
-    }
 }
 
 impl Drive for InPlace {
@@ -137,7 +122,25 @@ impl Drive for InPlace {
             | Call::Dump => {
                 self.by_value(task, out)
             }
-            _ => self.on_scalars(task, out),
+            Call::SetInitialSequenceId
+            | Call::SetName
+            | Call::SetMaxMessageSize
+            | Call::SetMaxBatchSizeBytes
+            | Call::SetMaxMessagesInBatch
+            | Call::SetBatchingEnabled
+            | Call::SetChunkingEnabled
+            | Call::SetSendTimeout
+            | Call::SetBatchingMaxPublishDelay
+            | Call::SetBrokerReady
+            | Call::Close => {
+                self.state.core = scalars(self.state.core, task, out);
+            }
+            Call::NextSendDeadline
+            | Call::NextBatchDeadline
+            | Call::BatchDeadlineElapsed
+            | Call::CanAddToBatch
+            | Call::OutboundLen
+            | Call::Stats => query(&self.state, task, out),
         }
     }
 }

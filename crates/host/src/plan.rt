@@ -1,9 +1,9 @@
-// The operations that need no ring, on the scalars: settings, ids and queries.
-// The same plans as those of the public methods.
+// The operations that need no ring, by the plans of the public methods.
 ghost use Rattle.script.specs.Output.{Writes};
 
 use crate::task::Task;
 use plans::state::Core;
+use producer::state::ProducerState;
 use script::answer::put_done;
 use script::operation::Call;
 use script::write::Output;
@@ -21,13 +21,14 @@ fn plan_set(c: Core, plan: Result<Core, ProducerError>, call: Call, out: &mut Ou
     plan.unwrap_or(c)
 }
 
-// `enqueued_at` is that of the front entry.
-fn plan_query(c: Core, enqueued_at: u64, task: Task, out: &mut Output)
+// What can be asked, of a state that stays where it is.
+pub(crate) fn query(s: &ProducerState, task: Task, out: &mut Output)
     ensures { Writes out.old out.new }
 {
+    let c = s.core;
     let call = task.call;
     match call {
-        Call::NextSendDeadline => put_done(out, call, c.next_send_deadline(enqueued_at)),
+        Call::NextSendDeadline => put_done(out, call, s.send_deadline()),
         Call::NextBatchDeadline => put_done(out, call, c.next_batch_deadline()),
         Call::BatchDeadlineElapsed => put_done(
             out,
@@ -40,12 +41,12 @@ fn plan_query(c: Core, enqueued_at: u64, task: Task, out: &mut Output)
             c.can_add_to_batch(task.arguments.get(), task.arguments.behind(8).get()),
         ),
         Call::OutboundLen => put_done(out, call, outbound_len_of(c.rings)),
-        _ => put_done(out, call, stats_of(c.counters, c.rings.pending.len)),
+        _ => put_done(out, call, stats_of(c.counters, c.rings.pending)),
     }
 }
 
-// The scalars after an operation.
-pub(crate) fn plan(c: Core, enqueued_at: u64, task: Task, out: &mut Output) -> Core
+// The scalars after a setting, the close or a first id.
+pub(crate) fn scalars(c: Core, task: Task, out: &mut Output) -> Core
     ensures { Writes out.old out.new }
 {
     match task.call {
@@ -53,23 +54,12 @@ pub(crate) fn plan(c: Core, enqueued_at: u64, task: Task, out: &mut Output) -> C
             put_done(out, task.call, ());
             c.set_initial_sequence_id(task.arguments.get())
         }
-        Call::SetName => plan_set(c, c.set_name(task.name()), task.call, out),
-        Call::SetMaxMessageSize
-        | Call::SetMaxBatchSizeBytes
-        | Call::SetMaxMessagesInBatch
-        | Call::SetBatchingEnabled
-        | Call::SetChunkingEnabled
-        | Call::SetSendTimeout
-        | Call::SetBatchingMaxPublishDelay
-        | Call::SetBrokerReady => plan_set(c, c.set(task.setting()), task.call, out),
         Call::Close => {
             put_done(out, task.call, ());
             c.close()
         }
-        _ => {
-            plan_query(c, enqueued_at, task, out);
-            c
-        }
+        Call::SetName => plan_set(c, c.set_name(task.name()), task.call, out),
+        _ => plan_set(c, c.set(task.setting()), task.call, out),
     }
 }
 
