@@ -1,4 +1,2 @@
 pub mod Framing
-pub mod Loops
 pub mod Takes
-pub mod Takings

@@ -4,12 +4,15 @@ ghost use Rattle.std.specs.Prelude.{◌≤◌, length};
 ghost use Rattle.script.specs.Output.{Writes};
 
 use crate::dump::put_dump;
+use crate::lent::{Entries, call_drain, call_replay, call_snapshot};
+use crate::run::Drive;
 use crate::take::call_take;
 use crate::task::Task;
 use producer::state::ProducerState;
 use script::answer::put_done;
 use script::operation::Call;
 use script::write::Output;
+use types::types::ProducerHandle;
 
 #[inline(never)]
 fn call_send(s: &ProducerState, task: Task, out: &mut Output) -> ProducerState
@@ -125,7 +128,13 @@ fn call_query(s: &ProducerState, task: Task, out: &mut Output)
     }
 }
 
-pub(crate) fn call(s: &ProducerState, task: Task, out: &mut Output) -> ProducerState
+// `last` has the replay table of the last snapshot.
+pub(crate) fn call(
+    s: &ProducerState,
+    last: &mut Entries,
+    task: Task,
+    out: &mut Output,
+) -> ProducerState
     requires { out.old.at ≤ length out.old.bytes.now }
     ensures { Writes out.old out.new }
 {
@@ -135,6 +144,9 @@ pub(crate) fn call(s: &ProducerState, task: Task, out: &mut Output) -> ProducerS
         Call::NextOutboundFrame => call_take(s, task, out),
         Call::ApplyReceipt => call_receipt(s, task, out),
         Call::ApplySendError => call_error(s, task, out),
+        Call::DrainTimedOutSends | Call::DrainPendingSends => call_drain(s, task, out),
+        Call::SnapshotPendingSends => call_snapshot(s, last, task, out),
+        Call::ReplaySnapshots | Call::ReplayLastSnapshot => call_replay(s, last, task, out),
         Call::ReplayPendingOutbound => call_resend(s, task, out),
         Call::SetInitialSequenceId => call_ids(s, task, out),
         Call::SetName => call_name(s, task, out),
@@ -151,5 +163,25 @@ pub(crate) fn call(s: &ProducerState, task: Task, out: &mut Output) -> ProducerS
             call_query(s, task, out);
             *s
         }
+    }
+}
+
+// Each operation through the public method.
+#[derive(Drop)]
+pub(crate) struct ByValue {
+    state: ProducerState,
+    last: Entries,
+}
+
+impl Drive for ByValue {
+    fn new(handle: ProducerHandle) -> Self {
+        ByValue {
+            state: ProducerState::new(handle),
+            last: Entries::none(),
+        }
+    }
+
+    fn carry_out(&mut self, task: Task, out: &mut Output) {
+        self.state = call(&self.state, &mut self.last, task, out);
     }
 }

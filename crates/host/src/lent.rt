@@ -5,20 +5,11 @@ ghost use Rattle.script.specs.Output.{Writes};
 
 use crate::task::Task;
 use producer::state::ProducerState;
-use rules::blank::no_publish;
+use rules::blank::no_entry;
 use script::operation::Call;
 use script::read::Place;
 use script::write::{Output, low_half};
 use types::entry::OpSend;
-use types::types::SequenceId;
-
-fn blank_table() -> [OpSend; 257] {
-    [OpSend {
-        sequence_id: SequenceId(0),
-        answerable: false,
-        publish: no_publish(),
-    }; 257]
-}
 
 // The first entries of a table, as many as are asked for.
 fn first(table: &[OpSend], n: usize) -> &[OpSend] {
@@ -35,7 +26,7 @@ pub(crate) struct Entries {
 impl Entries {
     pub fn none() -> Entries {
         Entries {
-            table: blank_table(),
+            table: [no_entry(); 257],
             len: 0,
         }
     }
@@ -43,7 +34,7 @@ impl Entries {
     // The table that a script writes out, at its count.
     fn at(place: Place) -> Entries {
         let len = (place.get::<u32>() as usize).min(257);
-        let mut table = blank_table();
+        let mut table = [no_entry(); 257];
         let mut from = place.behind(4);
         for entry in table[..len].iter_mut() {
             *entry = from.get();
@@ -65,10 +56,10 @@ fn room_at(place: Place) -> usize
 }
 
 #[inline(never)]
-fn call_drain(s: &ProducerState, task: Task, out: &mut Output) -> ProducerState
+pub(crate) fn call_drain(s: &ProducerState, task: Task, out: &mut Output) -> ProducerState
     ensures { Writes out.old out.new }
 {
-    let mut table = blank_table();
+    let mut table = [no_entry(); 257];
     let r = if task.call == Call::DrainTimedOutSends {
         let n = room_at(task.arguments.behind(8));
         s.drain_timed_out_sends(task.arguments.get(), &mut table[..n])
@@ -81,9 +72,9 @@ fn call_drain(s: &ProducerState, task: Task, out: &mut Output) -> ProducerState
     r.state
 }
 
-// A snapshot that is refused leaves the table of the one before.
+// `last` has the replay table of the last snapshot. One that is refused leaves it.
 #[inline(never)]
-fn call_snapshot(
+pub(crate) fn call_snapshot(
     s: &ProducerState,
     last: &mut Entries,
     task: Task,
@@ -91,8 +82,8 @@ fn call_snapshot(
 ) -> ProducerState
     ensures { Writes out.old out.new }
 {
-    let mut dropped = blank_table();
-    let mut replay = blank_table();
+    let mut dropped = [no_entry(); 257];
+    let mut replay = [no_entry(); 257];
     let n = room_at(task.arguments);
     let m = room_at(task.arguments.behind(4));
     let r = s.snapshot_pending_sends(&mut dropped[..n], &mut replay[..m]);
@@ -114,7 +105,7 @@ fn call_snapshot(
 }
 
 #[inline(never)]
-fn call_replay(s: &ProducerState, last: &Entries, task: Task, out: &mut Output) -> ProducerState
+pub(crate) fn call_replay(s: &ProducerState, last: &Entries, task: Task, out: &mut Output) -> ProducerState
     ensures { Writes out.old out.new }
 {
     let r = if task.call == Call::ReplaySnapshots {
@@ -125,32 +116,4 @@ fn call_replay(s: &ProducerState, last: &Entries, task: Task, out: &mut Output) 
     };
     out.put((task.call, r.answer));
     r.state
-}
-
-pub(crate) fn is_lent(call: Call) -> bool {
-    matches!(
-        call,
-        Call::DrainTimedOutSends
-            | Call::DrainPendingSends
-            | Call::SnapshotPendingSends
-            | Call::ReplaySnapshots
-            | Call::ReplayLastSnapshot
-    )
-}
-
-// `last` has the replay table of the last snapshot.
-#[inline(never)]
-pub(crate) fn call_lent(
-    s: &ProducerState,
-    last: &mut Entries,
-    task: Task,
-    out: &mut Output,
-) -> ProducerState
-    ensures { Writes out.old out.new }
-{
-    match task.call {
-        Call::DrainTimedOutSends | Call::DrainPendingSends => call_drain(s, task, out),
-        Call::SnapshotPendingSends => call_snapshot(s, last, task, out),
-        _ => call_replay(s, last, task, out),
-    }
 }

@@ -8,7 +8,6 @@ mod lent;
 mod plan;
 pub mod run;
 mod take;
-mod taken;
 mod task;
 
 ghost use Rattle.script.specs.Output.{Wrote};

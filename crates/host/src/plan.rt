@@ -1,42 +1,17 @@
-// The operations that need no ring, on the scalars: settings, ids, queries and the flush; and what a receipt or an error does to
-// the ids. The same plans as those of the public methods.
+// The operations that need no ring, by the plans of the public methods.
 ghost use Rattle.script.specs.Output.{Writes};
 
 use crate::task::Task;
-use plans::delta::Put;
 use plans::state::Core;
+use producer::state::ProducerState;
 use script::answer::put_done;
 use script::operation::Call;
 use script::write::Output;
 use types::command::{CommandSendError, CommandSendReceipt};
 use types::error::ProducerError;
-use types::frame::FrameRecord;
-use types::stats::SequenceIds;
 use types::types::MessageId;
 use upkeep::deadline::elapsed;
-use upkeep::stats::{outbound_len_of, published_ids, stats_of};
-
-// The scalars after an operation, and the frame that it pushes, if any.
-#[derive(Clone, Copy)]
-pub(crate) struct Planned {
-    pub core: Core,
-    pub frame: Option<Put<FrameRecord>>,
-}
-
-fn scalars(core: Core) -> Planned {
-    Planned { core, frame: None }
-}
-
-fn plan_flush(c: Core, task: Task, out: &mut Output) -> Planned
-    ensures { Writes out.old out.new }
-{
-    let d = c.plan_flush(task.arguments.get());
-    out.put((task.call, d.answer));
-    Planned {
-        core: d.core,
-        frame: d.frame,
-    }
-}
+use upkeep::stats::{outbound_len_of, stats_of};
 
 // A refusal leaves the scalars.
 fn plan_set(c: Core, plan: Result<Core, ProducerError>, call: Call, out: &mut Output) -> Core
@@ -46,13 +21,14 @@ fn plan_set(c: Core, plan: Result<Core, ProducerError>, call: Call, out: &mut Ou
     plan.unwrap_or(c)
 }
 
-// `enqueued_at` is that of the front entry.
-fn plan_query(c: Core, enqueued_at: u64, task: Task, out: &mut Output)
+// What can be asked, of a state that stays where it is.
+pub(crate) fn query(s: &ProducerState, task: Task, out: &mut Output)
     ensures { Writes out.old out.new }
 {
+    let c = s.core;
     let call = task.call;
     match call {
-        Call::NextSendDeadline => put_done(out, call, c.next_send_deadline(enqueued_at)),
+        Call::NextSendDeadline => put_done(out, call, s.send_deadline()),
         Call::NextBatchDeadline => put_done(out, call, c.next_batch_deadline()),
         Call::BatchDeadlineElapsed => put_done(
             out,
@@ -65,49 +41,29 @@ fn plan_query(c: Core, enqueued_at: u64, task: Task, out: &mut Output)
             c.can_add_to_batch(task.arguments.get(), task.arguments.behind(8).get()),
         ),
         Call::OutboundLen => put_done(out, call, outbound_len_of(c.rings)),
-        _ => put_done(out, call, stats_of(c.counters, c.rings.pending.len)),
+        _ => put_done(out, call, stats_of(c.counters, c.rings.pending)),
     }
 }
 
-pub(crate) fn plan(c: Core, enqueued_at: u64, task: Task, out: &mut Output) -> Planned
+// The scalars after a setting, the close or a first id.
+pub(crate) fn scalars(c: Core, task: Task, out: &mut Output) -> Core
     ensures { Writes out.old out.new }
 {
     match task.call {
-        Call::FlushBatch => plan_flush(c, task, out),
         Call::SetInitialSequenceId => {
             put_done(out, task.call, ());
-            scalars(c.set_initial_sequence_id(task.arguments.get()))
+            c.set_initial_sequence_id(task.arguments.get())
         }
-        Call::SetName => scalars(plan_set(c, c.set_name(task.name()), task.call, out)),
-        Call::SetMaxMessageSize
-        | Call::SetMaxBatchSizeBytes
-        | Call::SetMaxMessagesInBatch
-        | Call::SetBatchingEnabled
-        | Call::SetChunkingEnabled
-        | Call::SetSendTimeout
-        | Call::SetBatchingMaxPublishDelay
-        | Call::SetBrokerReady => { scalars(plan_set(c, c.set(task.setting()), task.call, out)) }
         Call::Close => {
             put_done(out, task.call, ());
-            scalars(c.close())
+            c.close()
         }
-        _ => {
-            plan_query(c, enqueued_at, task, out);
-            scalars(c)
-        }
+        Call::SetName => plan_set(c, c.set_name(task.name()), task.call, out),
+        _ => plan_set(c, c.set(task.setting()), task.call, out),
     }
 }
 
 // ---- receipts and errors ----
-
-// The ids once an entry has left by a receipt or by an error.
-pub(crate) fn settled_ids(ids: SequenceIds, call: Call, id: u64) -> SequenceIds {
-    if call == Call::ApplyReceipt {
-        published_ids(ids, id)
-    } else {
-        ids
-    }
-}
 
 // What an answer has in front of the entry that left: the message id of a receipt, or the error's code.
 pub(crate) fn put_settled(task: Task, out: &mut Output)

@@ -3,15 +3,25 @@ ghost use Rattle.std.specs.Prelude.{◌≤◌, length};
 ghost use Rattle.script.specs.Output.{Wrote, Writes};
 ghost use Rattle.host.specs.Steps.{Steps};
 
-use crate::call::call;
-use crate::in_place::run_in_place;
-use crate::lent::{Entries, call_lent, is_lent};
+use crate::call::ByValue;
+use crate::in_place::InPlace;
 use crate::task::Task;
-use producer::state::ProducerState;
 use script::answer::Ending;
 use script::operation::{Head, Operation, head_of, operation_at};
 use script::read::Place;
 use script::write::Output;
+use types::types::ProducerHandle;
+
+// How the operations of a script are carried out.
+pub(crate) trait Drive: Drop {
+    // Of a new producer.
+    fn new(handle: ProducerHandle) -> Self;
+
+    // One operation, of which the whole answer has room.
+    fn carry_out(&mut self, task: Task, out: &mut Output)
+        requires { out.old.at ≤ length out.old.bytes.now }
+        ensures { Writes out.old out.new };
+}
 
 // An answer of so many bytes and an ending record behind it.
 fn fits(room: u64, out: &Output) -> bool {
@@ -19,7 +29,7 @@ fn fits(room: u64, out: &Output) -> bool {
 }
 
 // The operation that is next. None once the run has ended; its ending record is then written.
-pub(crate) fn next_operation(place: Place, out: &mut Output) -> Option<Operation>
+fn next_operation(place: Place, out: &mut Output) -> Option<Operation>
     ensures onward { Steps place.entry.at (length place.entry.script.now) result }
     ensures ending { Writes out.old out.new }
 {
@@ -43,12 +53,11 @@ pub(crate) fn next_operation(place: Place, out: &mut Output) -> Option<Operation
 }
 
 #[inline(never)]
-fn run_by_value(head: Head, out: &mut Output)
+fn run<D: Drive>(head: Head, out: &mut Output)
     requires { out.old.at ≤ length out.old.bytes.now }
     ensures { Writes out.old out.new }
 {
-    let mut s = ProducerState::new(head.handle);
-    let mut last = Entries::none();
+    let mut drive = D::new(head.handle);
     let mut place = head.operations;
     while let Some(op) = next_operation(place, out) {
         let task = Task {
@@ -56,11 +65,7 @@ fn run_by_value(head: Head, out: &mut Output)
             arguments: place.behind(1),
             store: head.store,
         };
-        s = if is_lent(op.call) {
-            call_lent(&s, &mut last, task, out)
-        } else {
-            call(&s, task, out)
-        };
+        drive.carry_out(task, out);
         place = place.behind(op.size);
     }
 }
@@ -76,9 +81,9 @@ pub fn run_script(script: &[u8], out: &mut [u8]) -> usize
         None => out.put((Ending::Malformed, 0usize)),
         Some(head) => {
             if head.in_place {
-                run_in_place(head, &mut out);
+                run::<InPlace>(head, &mut out);
             } else {
-                run_by_value(head, &mut out);
+                run::<ByValue>(head, &mut out);
             }
         }
     }

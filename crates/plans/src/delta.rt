@@ -61,7 +61,10 @@ pub struct FlushDelta {
 pub(crate) fn put_at<T: Copy>(place: Option<usize>, value: T) -> Option<Put<T>>
     ensures { result ≡ put_at place value }
 {
-    place.map(|at| Put { at, value })
+    match place {
+        Some(at) => Some(Put { at, value }),
+        None => None,
+    }
 }
 
 impl Core {

@@ -43,31 +43,49 @@ fn read_bytes(input: &mut impl Read, buffer: &mut [u8]) -> usize
     n
 }
 
-fn agrees(input: &mut impl Read, script: &mut [u8], answers: &mut [u8], out: &mut [u8]) -> bool {
-    let room = read_u32(input).min(out.len());
-    let n = read_bytes(input, script);
-    let m = read_bytes(input, answers);
-    let k = run_script(&script[..n], &mut out[..room]);
-    answers[..m] == out[..k]
+// A record's script and the Rust's answers, as they are read, and the port's answers.
+#[derive(Drop)]
+struct Record {
+    script: [u8; 131072],
+    answers: [u8; 32768],
+    out: [u8; 131072],
 }
 
-fn replay(
-    rt: &impl Print,
-    input: &mut impl Read,
-    script: &mut [u8],
-    answers: &mut [u8],
-    out: &mut [u8],
-    count: usize,
-) -> io::Result<u64> {
-    let mut good: u64 = 0;
-    for i in 0..count {
-        if agrees(input, script, answers, out) {
-            good = good.saturating_add(1);
-        } else {
-            line(rt, i as u64)?;
+impl Record {
+    fn blank() -> Record {
+        Record {
+            script: [0; 131072],
+            answers: [0; 32768],
+            out: [0; 131072],
         }
     }
-    Ok(good)
+
+    // Of the next record.
+    fn agrees(&mut self, input: &mut impl Read) -> bool {
+        let out = &mut self.out[..];
+        let room = read_u32(input).min(out.len());
+        let n = read_bytes(input, &mut self.script);
+        let m = read_bytes(input, &mut self.answers);
+        let k = run_script(&self.script[..n], &mut out[..room]);
+        self.answers[..m] == out[..k]
+    }
+
+    fn replay(
+        &mut self,
+        rt: &impl Print,
+        input: &mut impl Read,
+        count: usize,
+    ) -> io::Result<u64> {
+        let mut good: u64 = 0;
+        for i in 0..count {
+            if self.agrees(input) {
+                good = good.saturating_add(1);
+            } else {
+                line(rt, i as u64)?;
+            }
+        }
+        Ok(good)
+    }
 }
 
 fn main(rt: HostRuntime) -> io::Result<()> {
@@ -75,10 +93,7 @@ fn main(rt: HostRuntime) -> io::Result<()> {
     let mut head = [0u8; 5];
     read_full(&mut input, &mut head);
     let count = read_u32(&mut input);
-    let mut script = [0u8; 131072];
-    let mut answers = [0u8; 32768];
-    let mut out = [0u8; 131072];
     line(&rt, count as u64)?;
-    let good = replay(&rt, &mut input, &mut script, &mut answers, &mut out, count)?;
+    let good = Record::blank().replay(&rt, &mut input, count)?;
     line(&rt, good)
 }

@@ -15,7 +15,7 @@ use types::message::OutgoingMessage;
 use types::outbound::{CommandSend, FrameName, MessageMetadata};
 use types::settings::{Delays, Limits, ProducerSettings};
 use types::stats::{Counters, ProducerStats, SequenceIds};
-use types::types::{MessageId, MessageIdData, ProducerHandle, SequenceId};
+use types::types::{MessageIdData, ProducerHandle, SequenceId};
 
 // What a run ends with.
 #[derive(Clone, Copy, PartialEq, Eq)]
@@ -176,17 +176,6 @@ impl Put for &[OpSend] {
 
 // ---- frames ----
 
-// The ids that a message bears have all their numbers.
-fn with_all(id: MessageId) -> MessageIdData {
-    MessageIdData {
-        ledger_id: id.ledger_id,
-        entry_id: id.entry_id,
-        partition: Some(id.partition),
-        batch_index: Some(id.batch_index),
-        batch_size: Some(id.batch_size),
-    }
-}
-
 impl Put for CommandSend {
     fn put(self, out: &mut Output) {
         out.put((
@@ -198,30 +187,8 @@ impl Put for CommandSend {
         out.put((
             self.highest_sequence_id,
             self.is_chunk,
-            self.message_id.map(with_all),
+            self.message_id.map(MessageIdData::from),
         ));
-    }
-}
-
-fn put_frame_name(out: &mut Output, store: &[u8], name: FrameName)
-    ensures { Writes out.old out.new }
-{
-    if name.own.len == 0 {
-        out.put(name.producer);
-    } else {
-        out.put(Stored {
-            store,
-            part: name.own,
-        });
-    }
-}
-
-fn put_uuid_text(out: &mut Output, uuid: Option<[u8; 36]>)
-    ensures { Writes out.old out.new }
-{
-    match uuid {
-        None => out.put(false),
-        Some(text) => out.put((true, text.as_slice())),
     }
 }
 
@@ -229,7 +196,10 @@ fn put_uuid_text(out: &mut Output, uuid: Option<[u8; 36]>)
 fn put_metadata_start(out: &mut Output, store: &[u8], m: MessageMetadata)
     ensures { Writes out.old out.new }
 {
-    put_frame_name(out, store, m.producer_name);
+    match m.producer_name {
+        FrameName::Own(part) => out.put(Stored { store, part }),
+        FrameName::Producer(name) => out.put(name),
+    }
     out.put((m.sequence_id, m.publish_time));
     out.put(m.partition_key.map(|part| Stored { store, part }));
     out.put((
@@ -245,7 +215,7 @@ fn put_metadata_end(out: &mut Output, m: MessageMetadata)
 {
     put_txn_halves(out, m.txn_id);
     out.put((m.highest_sequence_id, m.null_value));
-    put_uuid_text(out, m.uuid);
+    out.put(m.uuid.as_ref().map(|text| text.as_slice()));
     out.put((
         m.num_chunks_from_msg.map(low_half),
         m.total_chunk_msg_size.map(low_half),

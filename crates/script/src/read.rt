@@ -3,6 +3,7 @@ ghost use Rattle.std.specs.Prelude.{◌≡◌};
 ghost use Rattle.laws.specs.Numbers.{add_sat};
 
 use types::message::Part;
+use types::signed::signed_of;
 use types::txn::TxnId;
 use types::types::{MessageId, MessageIdData, ProducerHandle, SequenceId};
 
@@ -96,17 +97,13 @@ impl Get for i32 {
 
 impl Get for i64 {
     fn get(place: Place) -> i64 {
-        place.get::<u64>().cast_signed()
+        signed_of(place.get())
     }
 }
 
 impl<T: Get> Get for Option<T> {
     fn get(place: Place) -> Option<T> {
-        if place.get() {
-            Some(place.behind(1).get())
-        } else {
-            None
-        }
+        place.get::<bool>().then(|| place.behind(1).get())
     }
 }
 

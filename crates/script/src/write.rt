@@ -5,6 +5,7 @@ ghost use Rattle.std.specs.Prelude.{◌≡◌};
 ghost use Rattle.script.specs.Output.{Writes};
 
 use types::message::Part;
+use types::signed::bits_of;
 use types::txn::TxnId;
 use types::types::{MessageId, MessageIdData};
 
@@ -90,7 +91,7 @@ impl Put for i32 {
 
 impl Put for i64 {
     fn put(self, out: &mut Output) {
-        out.put(self.cast_unsigned());
+        out.put(bits_of(self));
     }
 }
 

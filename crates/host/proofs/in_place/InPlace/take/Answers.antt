@@ -1,0 +1,13 @@
+-- `host::in_place::InPlace::take`: the payload is written to a part of the output, and the answer around it.
+use Rattle.std.proofs.Common.{rules}
+use Rattle.host.proofs.Takes.{took}
+use Rattle.host.proofs.in_place.InPlace.take.Goals as goal
+
+pub returns : goal.returns
+returns c =
+    let r = c.take_front-answer in
+    let b = c.buffer_of-buffer.ensures in
+    record {
+      same_reference = c.put_taken.ensures.same_reference;
+      wrote = took _ r.result r.ensures.buffer_after c.put_taken.ensures.completes b.onward b.inside (search rules);
+    }
