@@ -4,7 +4,7 @@ ghost use Rattle.std.specs.Prelude.{◌≤◌, length};
 ghost use Rattle.script.specs.Output.{Writes};
 
 use crate::dump::put_dump;
-use crate::lent::{Entries, call_drain, call_replay, call_snapshot};
+use crate::lent::{Table, call_drain, call_replay, call_snapshot, no_table};
 use crate::run::Drive;
 use crate::take::call_take;
 use crate::task::Task;
@@ -131,7 +131,7 @@ fn call_query(s: &ProducerState, task: Task, out: &mut Output)
 // `last` has the replay table of the last snapshot.
 pub(crate) fn call(
     s: &ProducerState,
-    last: &mut Entries,
+    last: &mut Table,
     task: Task,
     out: &mut Output,
 ) -> ProducerState
@@ -170,14 +170,14 @@ pub(crate) fn call(
 #[derive(Drop)]
 pub(crate) struct ByValue {
     state: ProducerState,
-    last: Entries,
+    last: Table,
 }
 
 impl Drive for ByValue {
     fn new(handle: ProducerHandle) -> Self {
         ByValue {
             state: ProducerState::new(handle),
-            last: Entries::none(),
+            last: no_table(),
         }
     }
 

@@ -4,7 +4,7 @@ ghost use Rattle.std.specs.Prelude.{◌≤◌, length};
 ghost use Rattle.script.specs.Output.{Writes};
 
 use crate::call::call;
-use crate::lent::Entries;
+use crate::lent::{Table, no_table};
 use crate::plan::{put_settled, query, scalars};
 use crate::run::Drive;
 use crate::take::{buffer_of, put_taken};
@@ -30,7 +30,7 @@ pub(crate) struct InPlace {
     state: ProducerState,
     // Whether two pending entries may bear one id.
     repeated: bool,
-    last: Entries,
+    last: Table,
 }
 
 impl InPlace {
@@ -102,7 +102,7 @@ impl Drive for InPlace {
         InPlace {
             state: ProducerState::new(handle),
             repeated: false,
-            last: Entries::none(),
+            last: no_table(),
         }
     }
 
@@ -119,9 +119,7 @@ impl Drive for InPlace {
             | Call::ReplaySnapshots
             | Call::ReplayLastSnapshot
             | Call::ReplayPendingOutbound
-            | Call::Dump => {
-                self.by_value(task, out)
-            }
+            | Call::Dump => { self.by_value(task, out) }
             Call::SetInitialSequenceId
             | Call::SetName
             | Call::SetMaxMessageSize

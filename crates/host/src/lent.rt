@@ -1,50 +1,40 @@
-// The operations that are lent tables, through the public methods. A table has up to 257 places, one more than entries can be
-// pending: enough for a replay that 7 refuses.
+// The operations that are lent tables, through the public methods.
 ghost use Rattle.std.specs.Prelude.{◌≤◌};
 ghost use Rattle.script.specs.Output.{Writes};
 
 use crate::task::Task;
 use producer::state::ProducerState;
 use rules::blank::no_entry;
-use script::operation::Call;
+use script::operation::{Call, ENTRY, MOST_ENTRIES, entries};
 use script::read::Place;
 use script::write::{Output, low_half};
+use tables::list::Listed;
 use types::entry::OpSend;
+
+pub(crate) type Table = Listed<OpSend, { MOST_ENTRIES }>;
 
 // The first entries of a table, as many as are asked for.
 fn first(table: &[OpSend], n: usize) -> &[OpSend] {
     table.get(..n).unwrap_or(table)
 }
 
-// A table, and how many of its entries count. There is no heap, so it has the places of the longest.
-#[derive(Clone, Copy)]
-pub(crate) struct Entries {
-    table: [OpSend; 257],
-    len: usize,
+pub(crate) fn no_table() -> Table {
+    Listed {
+        items: [no_entry(); MOST_ENTRIES],
+        len: 0,
+    }
 }
 
-impl Entries {
-    pub fn none() -> Entries {
-        Entries {
-            table: [no_entry(); 257],
-            len: 0,
-        }
+// The table that a script writes out, at its count.
+fn written(place: Place) -> Table {
+    let bytes = entries(place);
+    let mut items = [no_entry(); MOST_ENTRIES];
+    for (op, entry) in items.iter_mut().zip(bytes.chunks_exact(ENTRY)) {
+        *op = Place::start(entry).get();
     }
-
-    // The table that a script writes out, at its count.
-    fn at(place: Place) -> Entries {
-        let len = (place.get::<u32>() as usize).min(257);
-        let mut table = [no_entry(); 257];
-        let mut from = place.behind(4);
-        for entry in table[..len].iter_mut() {
-            *entry = from.get();
-            from = from.behind(290);
-        }
-        Entries { table, len }
-    }
-
-    fn first(&self, n: usize) -> &[OpSend] {
-        first(&self.table, n.min(self.len))
+    Listed {
+        items,
+        len: bytes.len() / ENTRY,
     }
 }
 
@@ -59,7 +49,7 @@ fn room_at(place: Place) -> usize
 pub(crate) fn call_drain(s: &ProducerState, task: Task, out: &mut Output) -> ProducerState
     ensures { Writes out.old out.new }
 {
-    let mut table = [no_entry(); 257];
+    let mut table = [no_entry(); MOST_ENTRIES];
     let r = if task.call == Call::DrainTimedOutSends {
         let n = room_at(task.arguments.behind(8));
         s.drain_timed_out_sends(task.arguments.get(), &mut table[..n])
@@ -76,14 +66,14 @@ pub(crate) fn call_drain(s: &ProducerState, task: Task, out: &mut Output) -> Pro
 #[inline(never)]
 pub(crate) fn call_snapshot(
     s: &ProducerState,
-    last: &mut Entries,
+    last: &mut Table,
     task: Task,
     out: &mut Output,
 ) -> ProducerState
     ensures { Writes out.old out.new }
 {
-    let mut dropped = [no_entry(); 257];
-    let mut replay = [no_entry(); 257];
+    let mut dropped = [no_entry(); MOST_ENTRIES];
+    let mut replay = [no_entry(); MOST_ENTRIES];
     let n = room_at(task.arguments);
     let m = room_at(task.arguments.behind(4));
     let r = s.snapshot_pending_sends(&mut dropped[..n], &mut replay[..m]);
@@ -96,8 +86,8 @@ pub(crate) fn call_snapshot(
     });
     out.put((task.call, answer));
     if let Ok(n) = r.answer {
-        *last = Entries {
-            table: replay,
+        *last = Listed {
+            items: replay,
             len: n.replay,
         };
     }
@@ -105,14 +95,19 @@ pub(crate) fn call_snapshot(
 }
 
 #[inline(never)]
-pub(crate) fn call_replay(s: &ProducerState, last: &Entries, task: Task, out: &mut Output) -> ProducerState
+pub(crate) fn call_replay(
+    s: &ProducerState,
+    last: &Table,
+    task: Task,
+    out: &mut Output,
+) -> ProducerState
     ensures { Writes out.old out.new }
 {
     let r = if task.call == Call::ReplaySnapshots {
-        let entries = Entries::at(task.arguments);
-        s.replay_snapshots(entries.first(257))
+        s.replay_snapshots(written(task.arguments).as_slice())
     } else {
-        s.replay_snapshots(last.first(task.arguments.get::<u32>() as usize))
+        let n = task.arguments.get::<u32>() as usize;
+        s.replay_snapshots(first(last.as_slice(), n))
     };
     out.put((task.call, r.answer));
     r.state

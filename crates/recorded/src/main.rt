@@ -2,8 +2,6 @@
 // agree, and how many agree.
 #![tactic(auto)]
 
-ghost use Rattle.std.specs.Prelude.{◌≤◌, length};
-
 use host::run::run_script;
 use std::io;
 use std::io::Read;
@@ -12,35 +10,18 @@ fn line(rt: &impl Print, n: u64) -> io::Result<()> {
     rt.println(n)
 }
 
-// Reads until the buffer is full, the input ends or a read fails, and answers how many bytes it put at its start.
-fn read_full(input: &mut impl Read, buffer: &mut [u8]) -> usize
-    ensures { result ≤ length buffer.new }
-{
-    let mut done = 0;
-    // No `for`: how far a read comes is known only behind it.
-    while done < buffer.len() {
-        let n = input.read(&mut buffer[done..]).unwrap_or(0);
-        if n == 0 {
-            break;
-        }
-        done += n;
-    }
-    done
-}
-
-fn read_u32(input: &mut impl Read) -> usize {
+fn read_u32(input: &mut impl Read) -> io::Result<usize> {
     let mut four = [0u8; 4];
-    read_full(input, &mut four);
-    u32::from_le_bytes(four) as usize
+    input.read_exact(&mut four)?;
+    Ok(u32::from_le_bytes(four) as usize)
 }
 
-// Reads so many bytes as stand before them, to the start of a buffer.
-fn read_bytes(input: &mut impl Read, buffer: &mut [u8]) -> usize
-    ensures { result ≤ length buffer.old }
-{
-    let n = read_u32(input).min(buffer.len());
-    read_full(input, &mut buffer[..n]);
-    n
+// So many bytes as stand before them, read to the start of a buffer.
+fn read_bytes<'a>(input: &mut impl Read, buffer: &'a mut [u8]) -> io::Result<&'a [u8]> {
+    let n = read_u32(input)?.min(buffer.len());
+    let part = &mut buffer[..n];
+    input.read_exact(part)?;
+    Ok(part)
 }
 
 // A record's script and the Rust's answers, as they are read, and the port's answers.
@@ -61,24 +42,19 @@ impl Record {
     }
 
     // Of the next record.
-    fn agrees(&mut self, input: &mut impl Read) -> bool {
+    fn agrees(&mut self, input: &mut impl Read) -> io::Result<bool> {
         let out = &mut self.out[..];
-        let room = read_u32(input).min(out.len());
-        let n = read_bytes(input, &mut self.script);
-        let m = read_bytes(input, &mut self.answers);
-        let k = run_script(&self.script[..n], &mut out[..room]);
-        self.answers[..m] == out[..k]
+        let room = read_u32(input)?.min(out.len());
+        let script = read_bytes(input, &mut self.script)?;
+        let answers = read_bytes(input, &mut self.answers)?;
+        let k = run_script(script, &mut out[..room]);
+        Ok(answers == &out[..k])
     }
 
-    fn replay(
-        &mut self,
-        rt: &impl Print,
-        input: &mut impl Read,
-        count: usize,
-    ) -> io::Result<u64> {
+    fn replay(&mut self, rt: &impl Print, input: &mut impl Read, count: usize) -> io::Result<u64> {
         let mut good: u64 = 0;
         for i in 0..count {
-            if self.agrees(input) {
+            if self.agrees(input)? {
                 good = good.saturating_add(1);
             } else {
                 line(rt, i as u64)?;
@@ -91,8 +67,8 @@ impl Record {
 fn main(rt: HostRuntime) -> io::Result<()> {
     let mut input = rt.stdin();
     let mut head = [0u8; 5];
-    read_full(&mut input, &mut head);
-    let count = read_u32(&mut input);
+    input.read_exact(&mut head)?;
+    let count = read_u32(&mut input)?;
     line(&rt, count as u64)?;
     let good = Record::blank().replay(&rt, &mut input, count)?;
     line(&rt, good)

@@ -122,9 +122,10 @@ fn fixed_size(call: Call) -> usize
 }
 
 // An entry of an explicit table has so many bytes.
-const ENTRY: usize = 290;
+pub const ENTRY: usize = 290;
 
-const MOST_ENTRIES: usize = 257;
+// A table has at most so many, one more than can be pending: enough for a replay that 7 refuses.
+pub const MOST_ENTRIES: usize = 257;
 
 // Bytes of the name or of the table's entries, which follow. A table can have too many.
 fn more_size(call: Call, count: usize) -> Option<usize> {
@@ -137,7 +138,7 @@ fn more_size(call: Call, count: usize) -> Option<usize> {
 }
 
 // A table's entries, at their count.
-fn entries(place: Place) -> &[u8] {
+pub fn entries(place: Place) -> &[u8] {
     place
         .behind(4)
         .bytes(ENTRY.saturating_mul(place.get::<u32>() as usize))
