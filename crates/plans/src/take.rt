@@ -43,6 +43,7 @@ impl Core {
     }
 
     // The front record's first frame goes out, with `count` held messages, into `room` bytes.
+    #[inline(never)]
     pub fn plan_take(
         self,
         front: FrameRecord,
