@@ -43,7 +43,7 @@ pub fn message_span(front: FrameRecord, n: usize) -> Option<Span>
     let payload = front.message.payload;
     let skip = skip_of(front.kind);
     let len = piece_len(front.kind, payload.len, skip);
-    let inside = message_inside(piece_inside(payload.start, skip, len, n), front.message, n);
+    let inside = piece_inside(payload.start, skip, len, n) && message_inside(front.message, n);
     inside.then_some(Span {
         start: payload.start.saturating_add(skip),
         len,

@@ -1,7 +1,7 @@
 -- A take, from the plan to the queue of the definitions: the frame that the plan answers is the first of the front record, and the
 -- state after it has the rest. Assumes nothing.
 use Rattle.std.specs.Prelude.{Err, None, Ok, Option, Result, Some}
-use Rattle.std.proofs.Common.{◌≡◌, ℕ, ◌+◌, ◌-◌, ◌*◌, ◌%◌, ◌^◌, ◌<◌, ◌≤◌, min, Bool, true, false, ltb, leb, List, [], ◌∷◌, ◌++◌, length, get_or, take, drop, set, sym, refl, ap, ◌∙◌, subst, add-zero, zero-add, arith, lit<, length-drop, length-set, length-take-le, take_all, take_at, ltb-false, le-ltb, lt-ltb, eq-eqb, ne_eqb}
+use Rattle.std.proofs.Common.{◌≡◌, ℕ, ◌+◌, ◌-◌, ◌*◌, ◌%◌, ◌^◌, ◌<◌, ◌≤◌, min, Bool, true, false, ◌&&◌, ltb, leb, List, [], ◌∷◌, ◌++◌, length, get_or, take, drop, set, sym, refl, ap, ◌∙◌, subst, add-zero, zero-add, arith, lit<, length-drop, length-set, length-take-le, take_all, take_at, ltb-false, le-ltb, lt-ltb, eq-eqb, ne_eqb}
 use native.Mathlib.Decide.{dec_lt}
 use Rattle.laws.specs.Choice.{pick}
 use Rattle.laws.specs.Numbers.{add_sat}
@@ -16,19 +16,20 @@ use Rattle.types.specs.declared.frame.FrameKind.{FrameKind}
 use Rattle.types.specs.declared.frame.FrameKind.TheVariants.{Single, Batch, Chunked}
 use Rattle.types.specs.declared.message.SingleMessage.{SingleMessage}
 use Rattle.types.specs.declared.frame.ProducerName.{ProducerName}
+use Rattle.types.specs.declared.message.OutgoingMessage.{OutgoingMessage}
 use Rattle.types.specs.declared.message.Part.{Part}
 use Rattle.types.specs.declared.outbound.FrameName.TheVariants.{Own, Producer}
 use Rattle.types.specs.declared.outbound.OutboundFrame.{OutboundFrame}
-use Rattle.types.specs.Values.{part_of, name_of}
+use Rattle.types.specs.Values.{part_of, name_of, part_in, maybe_in}
 use Rattle.wire.specs.Batch.{batch_payload}
 use Rattle.wire.specs.Buffer.{Room, Puts}
 use Rattle.wire.specs.Length.{stopped, batch_length}
 use Rattle.wire.proofs.Lengths.{batch_length_lem}
 use Rattle.queue.specs.Queue.{Queue, Answer, refuse, with_out, done}
-use Rattle.queue.specs.Frame.{Frame, first_frame, frame_in, all_in}
+use Rattle.queue.specs.Frame.{Frame, first_frame, frame_in, borne_in, chunk_part, all_in}
 use Rattle.queue.specs.Take.{with_kind, next_chunk, rest_of, holds, taken, take_from, next_outbound_frame, written}
 use Rattle.queue.specs.Told.{Kept}
-use Rattle.frames.specs.Span.{borne, span_of, is_batch, held_count}
+use Rattle.frames.specs.Span.{name_in, borne, span_of, is_batch, held_count}
 use Rattle.frames.specs.Payload.{payload_of, Writable}
 use Rattle.frames.specs.Answer.{fitting, answer_of}
 use Rattle.frames.specs.Outbound.{present_if, frame_out}
@@ -110,6 +111,15 @@ name_if store false own producer = refl
 num_if : (b : Bool) (n : ℕ) → (present_if b n) ≡ pick b (Some n) None
 num_if true n = refl
 num_if false n = refl
+
+-- the payload's part is tested before what the message bears besides it
+borne_is : (n : ℕ) (m : OutgoingMessage) (p : Part) → borne_in n m p ≡ (part_in n p && borne n m)
+borne_is n m p = go (part_in n p)
+  where
+    go : (b : Bool)
+        → (b && maybe_in n m.partition_key && maybe_in n m.ordering_key && maybe_in n m.schema_version && name_in n m.producer_name) ≡ (b && borne n m)
+    go true = refl
+    go false = refl
 
 -- any message, where a law asks for one
 some_message : SingleMessage
@@ -232,9 +242,11 @@ module _ (s : ProducerState) (f : Full s) (d : FrameRecord) where
     inside_is : (k : FrameKind) → frame_in (length store) r k held_list ≡ is_there (span_for k)
     inside_is Single =
         let p = r.message.payload in
-        ap (λ (j : ℕ). borne (length store) r.message (leb (j + p.len) (length store))) (sym (add-zero p.start)) ∙ there_if _ _
+        borne_is (length store) r.message p
+        ∙ ap (λ (j : ℕ). leb (j + p.len) (length store) && borne (length store) r.message) (sym (add-zero p.start))
+        ∙ there_if _ _
     inside_is (Batch b) = ap (all_in (length store)) (sym (first_is b)) ∙ there_if _ _
-    inside_is (Chunked c) = there_if _ _
+    inside_is (Chunked c) = borne_is (length store) r.message (chunk_part r c) ∙ there_if _ _
 
     -- what is written, how much it is, and that it can be read from the store
     record Written (k : FrameKind) (g : Span) : Type 0 where
