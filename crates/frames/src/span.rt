@@ -1,6 +1,6 @@
 // Where the payload of the front frame lies (document 01, 'sends').
 ghost use Rattle.std.specs.Prelude.{◌≡◌};
-ghost use Rattle.laws.specs.Ring.{ring};
+ghost use Rattle.frames.specs.Held.{held_of};
 ghost use Rattle.frames.specs.Span.{skip_of, piece_len, message_span, empty_span, with_item, is_batch, held_count, span_of};
 
 use crate::held::Held;
@@ -84,7 +84,7 @@ pub fn with_item(span: Span, m: SingleMessage, n: usize) -> Option<Span>
 }
 
 pub fn payload_span(front: FrameRecord, held: Held, n: usize) -> Option<Span>
-    ensures { result ≡ span_of n front front.kind (ring 512 held.entry.messages.now held.entry.ring.head held.entry.ring.len) }
+    ensures { result ≡ span_of n front front.kind (held_of held.entry) }
 {
     if is_batch(front.kind) {
         held.span(n)
