@@ -5,6 +5,7 @@ ghost use Rattle.frames.specs.Span.{skip_of, piece_len, message_span, empty_span
 
 use crate::held::Held;
 use crate::inside::{message_inside, piece_inside, single_inside};
+use rules::rings::Ring;
 use types::frame::{FrameKind, FrameRecord};
 use types::message::SingleMessage;
 use wire::batch::item_len;
@@ -57,11 +58,11 @@ pub fn is_batch(kind: FrameKind) -> bool
 }
 
 // How many of the held messages go with the frame.
-pub fn held_count(kind: FrameKind, held_len: usize) -> usize
-    ensures { result ≡ held_count kind held_len }
+pub fn held_count(kind: FrameKind, held: Ring<512>) -> usize
+    ensures { result ≡ held_count kind held.len }
 {
     match kind {
-        FrameKind::Batch(b) => b.num_messages.min(held_len.min(512)),
+        FrameKind::Batch(b) => b.num_messages.min(held.count()),
         _ => 0,
     }
 }

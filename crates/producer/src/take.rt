@@ -28,7 +28,7 @@ impl ProducerState {
         let rings = self.core.rings;
         let at = rings.outbound.head % Rings::OUTBOUND;
         let front = self.outbound[at];
-        let count = held_count(front.kind, rings.held.len);
+        let count = held_count(front.kind, rings.held);
         let held = Held {
             messages: &self.held,
             ring: Ring {
