@@ -1,14 +1,13 @@
 -- A take, from the plan to the queue of the definitions: the frame that the plan answers is the first of the front record, and the
 -- state after it has the rest. Assumes nothing.
 use Rattle.std.specs.Prelude.{Err, None, Ok, Option, Result, Some}
-use Rattle.std.proofs.Common.{◌≡◌, ℕ, ◌+◌, ◌-◌, ◌*◌, ◌%◌, ◌^◌, ◌<◌, ◌≤◌, min, Bool, true, false, ◌&&◌, ltb, leb, List, [], ◌∷◌, ◌++◌, length, get_or, take, drop, set, sym, refl, ap, ◌∙◌, subst, add-zero, zero-add, arith, lit<, length-drop, length-set, length-take-le, take_all, take_at, ltb-false, le-ltb, lt-ltb, eq-eqb, ne_eqb}
+use Rattle.std.proofs.Common.{◌≡◌, ℕ, ◌+◌, ◌-◌, ◌*◌, ◌^◌, ◌<◌, ◌≤◌, min, Bool, true, false, ◌&&◌, ltb, leb, List, [], ◌∷◌, ◌++◌, length, get_or, take, drop, set, sym, refl, ap, ◌∙◌, subst, add-zero, zero-add, arith, lit<, length-drop, length-set, length-take-le, take_all, take_at, ltb-false, le-ltb, lt-ltb, eq-eqb, ne_eqb}
 use native.Mathlib.Decide.{dec_lt}
 use Rattle.laws.specs.Choice.{pick}
 use Rattle.laws.specs.Numbers.{add_sat}
 use Rattle.laws.specs.Ring.{ring, slot}
 use Rattle.laws.proofs.Choice.{pick_true, pick_false, differ, false_true}
 use Rattle.laws.proofs.Rings.{length_ring, ring_set, ring_take, ring_drop, ring_drops, ring_pop, ring_none}
-use Rattle.laws.proofs.Slots.{slot_zero}
 use Rattle.types.specs.declared.error.ProducerError.TheVariants.{NoFrame, PartOutside, TooShort}
 use Rattle.types.specs.declared.frame.BatchFrame.{BatchFrame}
 use Rattle.types.specs.declared.frame.FrameRecord.{FrameRecord}
@@ -135,9 +134,10 @@ some_message =
 
 -- ── the front record ──
 
-module _ (s : ProducerState) (f : Full s) (d : FrameRecord) where
+-- which stands at the first slot
+module _ (s : ProducerState) (f : Full s) (d : FrameRecord) (at : ℕ) (q : at ≡ slot 1024 s.core.rings.outbound.head 0) where
   abbrev pub front_of : FrameRecord
-  front_of = get_or s.outbound (s.core.rings.outbound.head % 1024) d
+  front_of = get_or s.outbound at d
 
   abbrev behind : List FrameRecord
   behind = ring 1024 s.outbound (slot 1024 s.core.rings.outbound.head 1) (min s.core.rings.outbound.len 1024 - 1)
@@ -150,33 +150,33 @@ module _ (s : ProducerState) (f : Full s) (d : FrameRecord) where
   unfolding view
   some_waiting b =
       ring_pop 1024 (lit< tt) s.outbound f.outbound d s.core.rings.outbound.head s.core.rings.outbound.len (omega arith)
-      ∙ ap (λ (k : ℕ). get_or s.outbound k d ∷ behind) (slot_zero 1024 s.core.rings.outbound.head)
+      ∙ ap (λ (k : ℕ). get_or s.outbound k d ∷ behind) (sym q)
 
   -- what a store in its slot leaves, with the head where it was and moved on
   module _ (b : 0 < s.core.rings.outbound.len) (x : FrameRecord) where
-    stored : ring 1024 (set s.outbound (s.core.rings.outbound.head % 1024) x) s.core.rings.outbound.head s.core.rings.outbound.len ≡ x ∷ behind
+    stored : ring 1024 (set s.outbound at x) s.core.rings.outbound.head s.core.rings.outbound.len ≡ x ∷ behind
     unfolding view
     stored =
         let h = s.core.rings.outbound.head in
         let n = s.core.rings.outbound.len in
-        ap (λ (k : ℕ). ring 1024 (set s.outbound k x) h n) (sym (slot_zero 1024 h))
+        ap (λ (k : ℕ). ring 1024 (set s.outbound k x) h n) q
         ∙ ring_set 1024 (lit< tt) s.outbound f.outbound h n 0 x (omega arith)
         ∙ ap (λ (l : List FrameRecord). set l 0 x) (some_waiting b)
 
-    gone : ring 1024 (set s.outbound (s.core.rings.outbound.head % 1024) x) (without_front 1024 1 s.core.rings.outbound).head
+    gone : ring 1024 (set s.outbound at x) (without_front 1024 1 s.core.rings.outbound).head
         (without_front 1024 1 s.core.rings.outbound).len
         ≡ behind
     gone =
         let h = s.core.rings.outbound.head in
         let n = s.core.rings.outbound.len in
-        let slots = set s.outbound (h % 1024) x in
+        let slots = set s.outbound at x in
         let one : min 1 (min n 1024) ≡ 1 = omega arith in
         ap (λ (k : ℕ). ring 1024 slots (slot 1024 h k) (min n 1024 - k)) one
         ∙ ring_drop 1024 (lit< tt) slots (simp length-set f.outbound) x h n 1 (omega arith)
         ∙ ap (drop 1) stored
 
   rest_is : 0 < s.core.rings.outbound.len → (r : FrameRecord) (k : FrameKind)
-      → ring 1024 (set s.outbound (s.core.rings.outbound.head % 1024) (record_after r k))
+      → ring 1024 (set s.outbound at (record_after r k))
       (pick (stays_of k) s.core.rings.outbound (without_front 1024 1 s.core.rings.outbound)).head
       (pick (stays_of k) s.core.rings.outbound (without_front 1024 1 s.core.rings.outbound)).len
       ≡ rest_of r k behind
@@ -185,7 +185,7 @@ module _ (s : ProducerState) (f : Full s) (d : FrameRecord) where
   rest_is b r (Chunked c) = go (has_next c)
     where
       go : (t : Bool)
-          → ring 1024 (set s.outbound (s.core.rings.outbound.head % 1024) (pick t (with_kind (Chunked (next_chunk c)) r) r))
+          → ring 1024 (set s.outbound at (pick t (with_kind (Chunked (next_chunk c)) r) r))
           (pick t s.core.rings.outbound (without_front 1024 1 s.core.rings.outbound)).head
           (pick t s.core.rings.outbound (without_front 1024 1 s.core.rings.outbound)).len
           ≡ pick t (with_kind (Chunked (next_chunk c)) r ∷ behind) behind
@@ -218,7 +218,7 @@ module _ (s : ProducerState) (f : Full s) (d : FrameRecord) where
   state_after r =
       record s {
         core = core_taken (stays_of r.kind) (held_count r.kind s.core.rings.held.len) s.core;
-        outbound = set s.outbound (s.core.rings.outbound.head % 1024) (record_after r r.kind);
+        outbound = set s.outbound at (record_after r r.kind);
       }
 
   after_is : SingleMessage → 0 < s.core.rings.outbound.len → (r : FrameRecord)
@@ -315,7 +315,7 @@ module _ (s : ProducerState) (f : Full s) (d : FrameRecord) where
 
   -- the state with the plan's stores
   abbrev pub stored_as : TakePlan → ProducerState
-  stored_as p = record s { core = p.core; outbound = set s.outbound (s.core.rings.outbound.head % 1024) p.slot }
+  stored_as p = record s { core = p.core; outbound = set s.outbound at p.slot }
 
   module _ (store before : List ℕ) (small : length store < 2 ^ 63) (short : length before < 2 ^ 63) where
     abbrev kind : FrameKind
