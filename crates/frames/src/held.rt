@@ -34,8 +34,8 @@ impl<'a> Held<'a> {
 
     // Writes their items to the start of `out`.
     pub fn put(self, out: &mut [u8], store: &[u8]) -> usize
-        requires { (all_in (length store.now) (held_of self) ≡ true) × Room (batch_payload store.now (held_of self)) 0 out.old }
-        ensures { Puts (batch_payload store.now (held_of self.entry)) 0 out.old out.new result }
+        requires { (all_in (length store.now) (held_of self) ≡ true) × Room (batch_payload store.now (held_of self)) out.old }
+        ensures { Puts (batch_payload store.now (held_of self.entry)) out.old out.new result }
     {
         let mut to = 0;
         for i in 0..self.ring.count() {

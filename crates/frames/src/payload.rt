@@ -12,7 +12,7 @@ use wire::copy::copy;
 // Writes the frame's payload to the start of `out`: a chunk's part of the store, or the items of a batch.
 pub fn put_payload(out: &mut [u8], store: &[u8], kind: FrameKind, span: Span, held: Held) -> usize
     requires { Writable store.now kind span (held_of held) out.old }
-    ensures { Puts (payload_of store.now kind span (held_of held.entry)) 0 out.old out.new result }
+    ensures { Puts (payload_of store.now kind span (held_of held.entry)) out.old out.new result }
 {
     if is_batch(kind) {
         held.put(out, store)

@@ -1,7 +1,7 @@
 -- A take, from the plan to the queue of the definitions: the frame that the plan answers is the first of the front record, and the
 -- state after it has the rest. Assumes nothing.
 use Rattle.std.specs.Prelude.{Err, None, Ok, Option, Result, Some}
-use Rattle.std.proofs.Common.{◌≡◌, ℕ, ◌+◌, ◌-◌, ◌*◌, ◌^◌, ◌<◌, ◌≤◌, min, Bool, true, false, ◌&&◌, ltb, leb, List, [], ◌∷◌, ◌++◌, length, get_or, take, drop, set, sym, refl, ap, ◌∙◌, subst, add-zero, zero-add, arith, lit<, length-drop, length-set, length-take-le, take_all, take_at, ltb-false, le-ltb, lt-ltb, eq-eqb, ne_eqb}
+use Rattle.std.proofs.Common.{◌≡◌, ℕ, ◌+◌, ◌-◌, ◌*◌, ◌^◌, ◌<◌, ◌≤◌, min, Bool, true, false, ◌&&◌, ltb, leb, List, [], ◌∷◌, ◌++◌, length, get_or, take, drop, set, sym, refl, ap, ◌∙◌, subst, add-zero, arith, lit<, length-drop, length-set, length-take-le, take_all, take_at, ltb-false, le-ltb, lt-ltb, eq-eqb, ne_eqb}
 use native.Mathlib.Decide.{dec_lt}
 use Rattle.laws.specs.Choice.{pick}
 use Rattle.laws.specs.Numbers.{add_sat}
@@ -416,10 +416,10 @@ module _ (s : ProducerState) (f : Full s) (d : FrameRecord) (at : ℕ) (q : at �
           record {
             held = w.held;
             own = w.own;
-            room = subst (λ (bytes : List ℕ). Room bytes 0 before) (sym w.bytes) (record { fits = omega arith });
+            room = subst (λ (bytes : List ℕ). Room bytes before) (sym w.bytes) (record { fits = omega arith });
           }
 
-      done_is : (after : List ℕ) (x : ℕ) → Puts (payload_of store kind g (first_of kind)) 0 before after x
+      done_is : (after : List ℕ) (x : ℕ) → Puts (payload_of store kind g (first_of kind)) before after x
           → Takes store before after (Ok (frame_out s.core.handle front_of kind g.len)) (state_after front_of)
       done_is after x v =
           let a = accepted g t in
@@ -428,7 +428,7 @@ module _ (s : ProducerState) (f : Full s) (d : FrameRecord) (at : ℕ) (q : at �
           let le : length bytes ≤ length before = ltb-false (length before) (length bytes) (test a.some g a.inside ∙ a.fits) in
           let size : length bytes ≡ g.len = stop_short (length bytes) (omega arith) ∙ w.size in
           let left : after ≡ bytes ++ drop (length bytes) before =
-          (subst (λ (l : List ℕ). Puts l 0 before after x) w.bytes v).left ∙ ap (λ (k : ℕ). bytes ++ drop k before) (zero-add (length bytes)) in
+          (subst (λ (l : List ℕ). Puts l before after x) w.bytes v).left in
           let start : take g.len after ≡ bytes = ap (take g.len) left ∙ take_at bytes (drop (length bytes) before) g.len size in
           let frame = frame_is store front_of after g.len kind start in (
             (λ j. (after_is some_message a.some front_of j, done (frame j))) ∙ sym (goes a.some g a.inside a.fits),
@@ -455,11 +455,11 @@ module _ (s : ProducerState) (f : Full s) (d : FrameRecord) (at : ℕ) (q : at �
         planned : Planned s.core front_of (held_count kind s.core.rings.held.len) answer p
         planned = ok_planned s.core front_of (held_count kind s.core.rings.held.len) answer p (sym planned_is ∙ t)
 
-        pub takes_done : (after : List ℕ) (x : ℕ) → Puts (payload_of store kind p.span (held_first count)) 0 before after x
+        pub takes_done : (after : List ℕ) (x : ℕ) → Puts (payload_of store kind p.span (held_first count)) before after x
             → Takes store before after (Ok p.frame) (stored_as p)
         takes_done after x v =
             subst (λ (q : TakePlan). Takes store before after (Ok q.frame) (stored_as q)) planned.same
-            (done_is p.span planned.goes after x (subst (λ (c : ℕ). Puts (payload_of store kind p.span (held_first c)) 0 before after x) ce v))
+            (done_is p.span planned.goes after x (subst (λ (c : ℕ). Puts (payload_of store kind p.span (held_first c)) before after x) ce v))
 
         pub takes_writable : Writable store kind p.span (held_first count) before
         takes_writable = subst (λ (c : ℕ). Writable store kind p.span (held_first c) before) (sym ce) (writable_is p.span planned.goes)

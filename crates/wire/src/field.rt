@@ -36,8 +36,8 @@ pub trait Field {
 
     fn put_field(self, out: &mut [u8], tag: u8, store: &[u8]) -> usize
         requires stored { stored (length store.now) self }
-        requires room { Room (bytes store.now tag self) 0 out.old }
-        ensures { Puts (bytes store.now tag self) 0 out.old out.new result };
+        requires room { Room (bytes store.now tag self) out.old }
+        ensures { Puts (bytes store.now tag self) out.old out.new result };
 
     // How many bytes `put_field` writes.
     fn field_len(self, tag: u8) -> usize

@@ -17,7 +17,7 @@ put_item-to-requires c =
     let l = c.loop-i in
     let ms = held_of s in
     let here : l.i < min s.ring.len 512 = omega arith in
-    let g = subst (λ (todo : List ℕ). Going (batch_payload a.store.now ms) todo 0 a.out.now l.out l.to) (held_next s.messages.now s.full s.ring.head s.ring.len a.store.now l.i _ _ c.slot.ensures here) l.invariant.1 in
+    let g = subst (λ (todo : List ℕ). Going (batch_payload a.store.now ms) todo a.out.now l.out l.to) (held_next s.messages.now s.full s.ring.head s.ring.len a.store.now l.i _ _ c.slot.ensures here) l.invariant.1 in
     (held_in_lem s.messages.now s.full s.ring.head s.ring.len a.store.now l.i _ _ c.slot.ensures here c.requires.0, going_lent_room (batch_payload a.store.now (drop (l.i + 1) ms)) g c.requires.1)
 
 pub loop-i-preserved : goal.loop-i-preserved
@@ -27,7 +27,7 @@ loop-i-preserved c =
     let l = c.loop-i in
     let ms = held_of s in
     let here : l.i < min s.ring.len 512 = omega arith in
-    let g = subst (λ (todo : List ℕ). Going (batch_payload a.store.now ms) todo 0 a.out.now l.out l.to) (held_next s.messages.now s.full s.ring.head s.ring.len a.store.now l.i _ _ c.slot.ensures here) l.invariant.1 in
+    let g = subst (λ (todo : List ℕ). Going (batch_payload a.store.now ms) todo a.out.now l.out l.to) (held_next s.messages.now s.full s.ring.head s.ring.len a.store.now l.i _ _ c.slot.ensures here) l.invariant.1 in
     let then = going_lent g c.put_item-to.ensures in
     (omega arith, then, same then.sofar)
 
@@ -41,4 +41,4 @@ returns c =
     let long = held_length s.messages.now s.full s.ring.head s.ring.len in
     let past : length ms ≤ l.i = omega (arith, long) in
     let none : batch_payload a.store.now (drop l.i ms) ≡ [] = ap (batch_payload a.store.now) (drop_of_length-le ms past) in
-    going_end (subst (λ (todo : List ℕ). Going (batch_payload a.store.now ms) todo 0 a.out.now l.out l.to) none l.invariant.1)
+    going_end (subst (λ (todo : List ℕ). Going (batch_payload a.store.now ms) todo a.out.now l.out l.to) none l.invariant.1)

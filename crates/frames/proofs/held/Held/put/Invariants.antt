@@ -11,4 +11,4 @@ abbrev pub invariant-loop-i : goal.invariant-loop-i
 invariant-loop-i l =
     let s = l.self in
     let ms = held_of s in
-    (l.i ≤ min s.ring.len 512) × Going (batch_payload l.store ms) (batch_payload l.store (drop l.i ms)) 0 l.initial.out l.out l.to × (length l.out ≡ length l.initial.out)
+    (l.i ≤ min s.ring.len 512) × Going (batch_payload l.store ms) (batch_payload l.store (drop l.i ms)) l.initial.out l.out l.to × (length l.out ≡ length l.initial.out)
