@@ -2,7 +2,7 @@
 use Prim.Native.Nat.{ℕ, ◌+◌, ◌<◌, ◌≤◌, ◌^◌, min}
 use mathlib.Core.Bool.{Bool, true, false, ◌&&◌}
 use mathlib.Core.List.{List, [], ◌∷◌, ◌++◌}
-use mathlib.Core.Path.{◌≡◌, refl, ap, sym, subst, ◌∙◌}
+use mathlib.Core.Path.{◌≡◌, ap, sym, subst, ◌∙◌}
 use native.Mathlib.Omega.{arith}
 use native.Mathlib.Numerals.{add-one}
 use lib.Dec.{lit<}
@@ -20,7 +20,7 @@ use Rattle.wire.specs.Length.{stopped, item_length, batch_length}
 use Rattle.wire.proofs.ItemLaws.{batch_step, all_at}
 use Rattle.queue.specs.Frame.{single_in, all_in}
 use Rattle.laws.proofs.Choice.{and_left, and_right}
-use Rattle.frames.specs.Span.{empty_span, with_item, batch_span}
+use Rattle.frames.specs.Span.{with_item, batch_span}
 use Rattle.frames.specs.declared.span.Span.{Span}
 use Rattle.frames.proofs.Pieces.{some_picked, none_picked}
 
@@ -33,9 +33,6 @@ pub record Spans (n : ℕ) (ms : List SingleMessage) (s : Span) (i : ℕ) : Type
   pub small : s.len < 2 ^ 64
   pub all : all_in n (drop i ms) ≡ all_in n ms
   pub sum : add_sat s.len (stopped (batch_length (drop i ms))) ≡ stopped (batch_length ms)
-
-pub spans_start : (n : ℕ) (ms : List SingleMessage) → Spans n ms empty_span 0
-spans_start n ms = record { origin = refl; small = omega arith; all = refl; sum = omega arith }
 
 module _ (n : ℕ) (ms : List SingleMessage) (s : Span) (i : ℕ) (d : SingleMessage) (b : i < length ms) (h : Spans n ms s i) where
   next : drop i ms ≡ get_or ms i d ∷ drop (i + 1) ms

@@ -7,9 +7,8 @@ use Rattle.std.specs.Prelude.{leb, Option, Some, None}
 use Rattle.laws.specs.Choice.{pick}
 use Rattle.laws.specs.Numbers.{add_sat}
 use Rattle.laws.proofs.Choice.{and_left}
-use Rattle.types.specs.Values.{maybe_in}
 use Rattle.types.specs.declared.message.OutgoingMessage.{OutgoingMessage}
-use Rattle.frames.specs.Span.{borne, name_in, span_at}
+use Rattle.frames.specs.Span.{borne, span_at}
 use Rattle.frames.specs.declared.span.Span.{Span}
 
 pub some_picked : (b : Bool) (s t : Span) → pick b (Some s) None ≡ Some t → (b ≡ true) × (s ≡ t)
@@ -36,13 +35,5 @@ pub record Piece (n : ℕ) (m : OutgoingMessage) (skip len : ℕ) (s : Span) : T
 pub piece_of : (n : ℕ) (m : OutgoingMessage) (skip len : ℕ) (s : Span) → span_at n m skip len ≡ Some s → Piece n m skip len s
 piece_of n m skip len s e =
     let p = leb (m.payload.start + skip + len) n in
-    let x = maybe_in n m.partition_key in
-    let y = maybe_in n m.ordering_key in
-    let z = maybe_in n m.schema_version in
-    let h = some_picked (borne n m p) (record { start = add_sat m.payload.start skip; len = len }) s e in
-    record {
-      within =
-          leb-true (m.payload.start + skip + len) n
-          (and_left p x (and_left (p && x) y (and_left (p && x && y) z (and_left (p && x && y && z) (name_in n m.producer_name) h.0))));
-      same = h.1;
-    }
+    let h = some_picked (p && borne n m) (record { start = add_sat m.payload.start skip; len = len }) s e in
+    record { within = leb-true (m.payload.start + skip + len) n (and_left p (borne n m) h.0); same = h.1 }

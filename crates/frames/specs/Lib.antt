@@ -3,3 +3,4 @@ pub mod Payload
 pub mod Answer
 pub mod Outbound
 pub mod After
+pub mod Held

@@ -17,4 +17,4 @@ payload_of store k s ms = pick (is_batch k) (batch_payload store ms) (take s.len
 pub record Writable (store : List ℕ) (k : FrameKind) (s : Span) (ms : List SingleMessage) (before : List ℕ) : Type 0 where
   pub held : is_batch k ≡ true → all_in (length store) ms ≡ true
   pub own : is_batch k ≡ false → s.start + s.len ≤ length store
-  pub room : Room (payload_of store k s ms) 0 before
+  pub room : Room (payload_of store k s ms) before

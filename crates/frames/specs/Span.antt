@@ -16,9 +16,10 @@ use Rattle.frames.specs.declared.span.Span.{Span}
 abbrev pub name_in : ℕ → Part → Bool
 name_in n name = pick (eqb name.len 0) true (part_in n name)
 
-abbrev pub borne : ℕ → OutgoingMessage → Bool → Bool
-borne n m payload =
-    payload && maybe_in n m.partition_key && maybe_in n m.ordering_key && maybe_in n m.schema_version && name_in n m.producer_name
+-- what a message bears besides its payload
+abbrev pub borne : ℕ → OutgoingMessage → Bool
+borne n m =
+    maybe_in n m.partition_key && maybe_in n m.ordering_key && maybe_in n m.schema_version && name_in n m.producer_name
 
 -- what of the payload went before
 abbrev pub skip_of : FrameKind → ℕ
@@ -33,7 +34,7 @@ piece_len (Chunked c) len skip = min c.max_chunk_size (len - skip)
 
 abbrev pub span_at : ℕ → OutgoingMessage → ℕ → ℕ → Option Span
 span_at n m skip len =
-    pick (borne n m (leb (m.payload.start + skip + len) n)) (Some (record { start = add_sat m.payload.start skip; len = len })) None
+    pick (leb (m.payload.start + skip + len) n && borne n m) (Some (record { start = add_sat m.payload.start skip; len = len })) None
 
 abbrev pub message_span : ℕ → FrameRecord → Option Span
 message_span n r =

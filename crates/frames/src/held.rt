@@ -1,6 +1,5 @@
 // The held messages of the batch frames (document 01, 'sends').
 ghost use Rattle.std.specs.Prelude.{◌≡◌, true, length};
-ghost use Rattle.laws.specs.Ring.{ring};
 ghost use Rattle.wire.specs.Batch.{batch_payload};
 ghost use Rattle.wire.specs.Buffer.{Room, Puts};
 ghost use Rattle.queue.specs.Frame.{all_in};
@@ -20,9 +19,11 @@ pub struct Held<'a> {
 }
 
 impl<'a> Held<'a> {
+    ghost use Rattle.frames.specs.Held.{held_of};
+
     // The payload that their items make.
     pub fn span(self, n: usize) -> Option<Span>
-        ensures { result ≡ batch_span n (ring 512 self.entry.messages.now self.entry.ring.head self.entry.ring.len) }
+        ensures { result ≡ batch_span n (held_of self.entry) }
     {
         let mut span = empty_span();
         for i in 0..self.ring.count() {
@@ -33,8 +34,8 @@ impl<'a> Held<'a> {
 
     // Writes their items to the start of `out`.
     pub fn put(self, out: &mut [u8], store: &[u8]) -> usize
-        requires { (all_in (length store.now) (ring 512 self.messages.now self.ring.head self.ring.len) ≡ true) × Room (batch_payload store.now (ring 512 self.messages.now self.ring.head self.ring.len)) 0 out.old }
-        ensures { Puts (batch_payload store.now (ring 512 self.entry.messages.now self.entry.ring.head self.entry.ring.len)) 0 out.old out.new result }
+        requires { (all_in (length store.now) (held_of self) ≡ true) × Room (batch_payload store.now (held_of self)) out.old }
+        ensures { Puts (batch_payload store.now (held_of self.entry)) out.old out.new result }
     {
         let mut to = 0;
         for i in 0..self.ring.count() {

@@ -20,11 +20,11 @@ fn name_inside(name: Part, n: usize) -> bool
     name.len == 0 || part_in(n, name)
 }
 
-pub fn message_inside(payload: bool, m: OutgoingMessage, n: usize) -> bool
-    ensures { result ≡ borne n m payload }
+// Of what a message bears, all but its payload.
+pub fn message_inside(m: OutgoingMessage, n: usize) -> bool
+    ensures { result ≡ borne n m }
 {
-    payload
-        && maybe_part_in(n, m.partition_key)
+    maybe_part_in(n, m.partition_key)
         && maybe_part_in(n, m.ordering_key)
         && maybe_part_in(n, m.schema_version)
         && name_inside(m.producer_name, n)

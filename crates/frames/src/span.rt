@@ -1,10 +1,11 @@
 // Where the payload of the front frame lies (document 01, 'sends').
 ghost use Rattle.std.specs.Prelude.{◌≡◌};
-ghost use Rattle.laws.specs.Ring.{ring};
+ghost use Rattle.frames.specs.Held.{held_of};
 ghost use Rattle.frames.specs.Span.{skip_of, piece_len, message_span, empty_span, with_item, is_batch, held_count, span_of};
 
 use crate::held::Held;
 use crate::inside::{message_inside, piece_inside, single_inside};
+use rules::rings::Ring;
 use types::frame::{FrameKind, FrameRecord};
 use types::message::SingleMessage;
 use wire::batch::item_len;
@@ -43,7 +44,7 @@ pub fn message_span(front: FrameRecord, n: usize) -> Option<Span>
     let payload = front.message.payload;
     let skip = skip_of(front.kind);
     let len = piece_len(front.kind, payload.len, skip);
-    let inside = message_inside(piece_inside(payload.start, skip, len, n), front.message, n);
+    let inside = piece_inside(payload.start, skip, len, n) && message_inside(front.message, n);
     inside.then_some(Span {
         start: payload.start.saturating_add(skip),
         len,
@@ -57,11 +58,11 @@ pub fn is_batch(kind: FrameKind) -> bool
 }
 
 // How many of the held messages go with the frame.
-pub fn held_count(kind: FrameKind, held_len: usize) -> usize
-    ensures { result ≡ held_count kind held_len }
+pub fn held_count(kind: FrameKind, held: Ring<512>) -> usize
+    ensures { result ≡ held_count kind held.len }
 {
     match kind {
-        FrameKind::Batch(b) => b.num_messages.min(held_len.min(512)),
+        FrameKind::Batch(b) => b.num_messages.min(held.count()),
         _ => 0,
     }
 }
@@ -84,7 +85,7 @@ pub fn with_item(span: Span, m: SingleMessage, n: usize) -> Option<Span>
 }
 
 pub fn payload_span(front: FrameRecord, held: Held, n: usize) -> Option<Span>
-    ensures { result ≡ span_of n front front.kind (ring 512 held.entry.messages.now held.entry.ring.head held.entry.ring.len) }
+    ensures { result ≡ span_of n front front.kind (held_of held.entry) }
 {
     if is_batch(front.kind) {
         held.span(n)

@@ -1,14 +1,13 @@
 -- A take, from the plan to the queue of the definitions: the frame that the plan answers is the first of the front record, and the
 -- state after it has the rest. Assumes nothing.
 use Rattle.std.specs.Prelude.{Err, None, Ok, Option, Result, Some}
-use Rattle.std.proofs.Common.{◌≡◌, ℕ, ◌+◌, ◌-◌, ◌*◌, ◌%◌, ◌^◌, ◌<◌, ◌≤◌, min, Bool, true, false, ltb, leb, List, [], ◌∷◌, ◌++◌, length, get_or, take, drop, set, sym, refl, ap, ◌∙◌, subst, add-zero, zero-add, arith, lit<, length-drop, length-set, length-take-le, take_all, take_at, ltb-false, le-ltb, lt-ltb, eq-eqb, ne_eqb}
+use Rattle.std.proofs.Common.{◌≡◌, ℕ, ◌+◌, ◌-◌, ◌*◌, ◌^◌, ◌<◌, ◌≤◌, min, Bool, true, false, ◌&&◌, ltb, leb, List, [], ◌∷◌, ◌++◌, length, get_or, take, drop, set, sym, refl, ap, ◌∙◌, subst, add-zero, arith, lit<, length-drop, length-set, length-take-le, take_all, take_at, ltb-false, le-ltb, lt-ltb, eq-eqb, ne_eqb}
 use native.Mathlib.Decide.{dec_lt}
 use Rattle.laws.specs.Choice.{pick}
 use Rattle.laws.specs.Numbers.{add_sat}
 use Rattle.laws.specs.Ring.{ring, slot}
 use Rattle.laws.proofs.Choice.{pick_true, pick_false, differ, false_true}
 use Rattle.laws.proofs.Rings.{length_ring, ring_set, ring_take, ring_drop, ring_drops, ring_pop, ring_none}
-use Rattle.laws.proofs.Slots.{slot_zero}
 use Rattle.types.specs.declared.error.ProducerError.TheVariants.{NoFrame, PartOutside, TooShort}
 use Rattle.types.specs.declared.frame.BatchFrame.{BatchFrame}
 use Rattle.types.specs.declared.frame.FrameRecord.{FrameRecord}
@@ -16,19 +15,20 @@ use Rattle.types.specs.declared.frame.FrameKind.{FrameKind}
 use Rattle.types.specs.declared.frame.FrameKind.TheVariants.{Single, Batch, Chunked}
 use Rattle.types.specs.declared.message.SingleMessage.{SingleMessage}
 use Rattle.types.specs.declared.frame.ProducerName.{ProducerName}
+use Rattle.types.specs.declared.message.OutgoingMessage.{OutgoingMessage}
 use Rattle.types.specs.declared.message.Part.{Part}
 use Rattle.types.specs.declared.outbound.FrameName.TheVariants.{Own, Producer}
 use Rattle.types.specs.declared.outbound.OutboundFrame.{OutboundFrame}
-use Rattle.types.specs.Values.{part_of, name_of}
+use Rattle.types.specs.Values.{part_of, name_of, part_in, maybe_in}
 use Rattle.wire.specs.Batch.{batch_payload}
 use Rattle.wire.specs.Buffer.{Room, Puts}
 use Rattle.wire.specs.Length.{stopped, batch_length}
 use Rattle.wire.proofs.Lengths.{batch_length_lem}
 use Rattle.queue.specs.Queue.{Queue, Answer, refuse, with_out, done}
-use Rattle.queue.specs.Frame.{Frame, first_frame, frame_in, all_in}
+use Rattle.queue.specs.Frame.{Frame, first_frame, frame_in, borne_in, chunk_part, all_in}
 use Rattle.queue.specs.Take.{with_kind, next_chunk, rest_of, holds, taken, take_from, next_outbound_frame, written}
 use Rattle.queue.specs.Told.{Kept}
-use Rattle.frames.specs.Span.{borne, span_of, is_batch, held_count}
+use Rattle.frames.specs.Span.{name_in, borne, span_of, is_batch, held_count}
 use Rattle.frames.specs.Payload.{payload_of, Writable}
 use Rattle.frames.specs.Answer.{fitting, answer_of}
 use Rattle.frames.specs.Outbound.{present_if, frame_out}
@@ -111,6 +111,15 @@ num_if : (b : Bool) (n : ℕ) → (present_if b n) ≡ pick b (Some n) None
 num_if true n = refl
 num_if false n = refl
 
+-- the payload's part is tested before what the message bears besides it
+borne_is : (n : ℕ) (m : OutgoingMessage) (p : Part) → borne_in n m p ≡ (part_in n p && borne n m)
+borne_is n m p = go (part_in n p)
+  where
+    go : (b : Bool)
+        → (b && maybe_in n m.partition_key && maybe_in n m.ordering_key && maybe_in n m.schema_version && name_in n m.producer_name) ≡ (b && borne n m)
+    go true = refl
+    go false = refl
+
 -- any message, where a law asks for one
 some_message : SingleMessage
 some_message =
@@ -125,9 +134,10 @@ some_message =
 
 -- ── the front record ──
 
-module _ (s : ProducerState) (f : Full s) (d : FrameRecord) where
+-- which stands at the first slot
+module _ (s : ProducerState) (f : Full s) (d : FrameRecord) (at : ℕ) (q : at ≡ slot 1024 s.core.rings.outbound.head 0) where
   abbrev pub front_of : FrameRecord
-  front_of = get_or s.outbound (s.core.rings.outbound.head % 1024) d
+  front_of = get_or s.outbound at d
 
   abbrev behind : List FrameRecord
   behind = ring 1024 s.outbound (slot 1024 s.core.rings.outbound.head 1) (min s.core.rings.outbound.len 1024 - 1)
@@ -140,33 +150,33 @@ module _ (s : ProducerState) (f : Full s) (d : FrameRecord) where
   unfolding view
   some_waiting b =
       ring_pop 1024 (lit< tt) s.outbound f.outbound d s.core.rings.outbound.head s.core.rings.outbound.len (omega arith)
-      ∙ ap (λ (k : ℕ). get_or s.outbound k d ∷ behind) (slot_zero 1024 s.core.rings.outbound.head)
+      ∙ ap (λ (k : ℕ). get_or s.outbound k d ∷ behind) (sym q)
 
   -- what a store in its slot leaves, with the head where it was and moved on
   module _ (b : 0 < s.core.rings.outbound.len) (x : FrameRecord) where
-    stored : ring 1024 (set s.outbound (s.core.rings.outbound.head % 1024) x) s.core.rings.outbound.head s.core.rings.outbound.len ≡ x ∷ behind
+    stored : ring 1024 (set s.outbound at x) s.core.rings.outbound.head s.core.rings.outbound.len ≡ x ∷ behind
     unfolding view
     stored =
         let h = s.core.rings.outbound.head in
         let n = s.core.rings.outbound.len in
-        ap (λ (k : ℕ). ring 1024 (set s.outbound k x) h n) (sym (slot_zero 1024 h))
+        ap (λ (k : ℕ). ring 1024 (set s.outbound k x) h n) q
         ∙ ring_set 1024 (lit< tt) s.outbound f.outbound h n 0 x (omega arith)
         ∙ ap (λ (l : List FrameRecord). set l 0 x) (some_waiting b)
 
-    gone : ring 1024 (set s.outbound (s.core.rings.outbound.head % 1024) x) (without_front 1024 1 s.core.rings.outbound).head
+    gone : ring 1024 (set s.outbound at x) (without_front 1024 1 s.core.rings.outbound).head
         (without_front 1024 1 s.core.rings.outbound).len
         ≡ behind
     gone =
         let h = s.core.rings.outbound.head in
         let n = s.core.rings.outbound.len in
-        let slots = set s.outbound (h % 1024) x in
+        let slots = set s.outbound at x in
         let one : min 1 (min n 1024) ≡ 1 = omega arith in
         ap (λ (k : ℕ). ring 1024 slots (slot 1024 h k) (min n 1024 - k)) one
         ∙ ring_drop 1024 (lit< tt) slots (simp length-set f.outbound) x h n 1 (omega arith)
         ∙ ap (drop 1) stored
 
   rest_is : 0 < s.core.rings.outbound.len → (r : FrameRecord) (k : FrameKind)
-      → ring 1024 (set s.outbound (s.core.rings.outbound.head % 1024) (record_after r k))
+      → ring 1024 (set s.outbound at (record_after r k))
       (pick (stays_of k) s.core.rings.outbound (without_front 1024 1 s.core.rings.outbound)).head
       (pick (stays_of k) s.core.rings.outbound (without_front 1024 1 s.core.rings.outbound)).len
       ≡ rest_of r k behind
@@ -175,7 +185,7 @@ module _ (s : ProducerState) (f : Full s) (d : FrameRecord) where
   rest_is b r (Chunked c) = go (has_next c)
     where
       go : (t : Bool)
-          → ring 1024 (set s.outbound (s.core.rings.outbound.head % 1024) (pick t (with_kind (Chunked (next_chunk c)) r) r))
+          → ring 1024 (set s.outbound at (pick t (with_kind (Chunked (next_chunk c)) r) r))
           (pick t s.core.rings.outbound (without_front 1024 1 s.core.rings.outbound)).head
           (pick t s.core.rings.outbound (without_front 1024 1 s.core.rings.outbound)).len
           ≡ pick t (with_kind (Chunked (next_chunk c)) r ∷ behind) behind
@@ -208,7 +218,7 @@ module _ (s : ProducerState) (f : Full s) (d : FrameRecord) where
   state_after r =
       record s {
         core = core_taken (stays_of r.kind) (held_count r.kind s.core.rings.held.len) s.core;
-        outbound = set s.outbound (s.core.rings.outbound.head % 1024) (record_after r r.kind);
+        outbound = set s.outbound at (record_after r r.kind);
       }
 
   after_is : SingleMessage → 0 < s.core.rings.outbound.len → (r : FrameRecord)
@@ -232,9 +242,11 @@ module _ (s : ProducerState) (f : Full s) (d : FrameRecord) where
     inside_is : (k : FrameKind) → frame_in (length store) r k held_list ≡ is_there (span_for k)
     inside_is Single =
         let p = r.message.payload in
-        ap (λ (j : ℕ). borne (length store) r.message (leb (j + p.len) (length store))) (sym (add-zero p.start)) ∙ there_if _ _
+        borne_is (length store) r.message p
+        ∙ ap (λ (j : ℕ). leb (j + p.len) (length store) && borne (length store) r.message) (sym (add-zero p.start))
+        ∙ there_if _ _
     inside_is (Batch b) = ap (all_in (length store)) (sym (first_is b)) ∙ there_if _ _
-    inside_is (Chunked c) = there_if _ _
+    inside_is (Chunked c) = borne_is (length store) r.message (chunk_part r c) ∙ there_if _ _
 
     -- what is written, how much it is, and that it can be read from the store
     record Written (k : FrameKind) (g : Span) : Type 0 where
@@ -303,7 +315,7 @@ module _ (s : ProducerState) (f : Full s) (d : FrameRecord) where
 
   -- the state with the plan's stores
   abbrev pub stored_as : TakePlan → ProducerState
-  stored_as p = record s { core = p.core; outbound = set s.outbound (s.core.rings.outbound.head % 1024) p.slot }
+  stored_as p = record s { core = p.core; outbound = set s.outbound at p.slot }
 
   module _ (store before : List ℕ) (small : length store < 2 ^ 63) (short : length before < 2 ^ 63) where
     abbrev kind : FrameKind
@@ -404,10 +416,10 @@ module _ (s : ProducerState) (f : Full s) (d : FrameRecord) where
           record {
             held = w.held;
             own = w.own;
-            room = subst (λ (bytes : List ℕ). Room bytes 0 before) (sym w.bytes) (record { fits = omega arith });
+            room = subst (λ (bytes : List ℕ). Room bytes before) (sym w.bytes) (record { fits = omega arith });
           }
 
-      done_is : (after : List ℕ) (x : ℕ) → Puts (payload_of store kind g (first_of kind)) 0 before after x
+      done_is : (after : List ℕ) (x : ℕ) → Puts (payload_of store kind g (first_of kind)) before after x
           → Takes store before after (Ok (frame_out s.core.handle front_of kind g.len)) (state_after front_of)
       done_is after x v =
           let a = accepted g t in
@@ -416,7 +428,7 @@ module _ (s : ProducerState) (f : Full s) (d : FrameRecord) where
           let le : length bytes ≤ length before = ltb-false (length before) (length bytes) (test a.some g a.inside ∙ a.fits) in
           let size : length bytes ≡ g.len = stop_short (length bytes) (omega arith) ∙ w.size in
           let left : after ≡ bytes ++ drop (length bytes) before =
-          (subst (λ (l : List ℕ). Puts l 0 before after x) w.bytes v).left ∙ ap (λ (k : ℕ). bytes ++ drop k before) (zero-add (length bytes)) in
+          (subst (λ (l : List ℕ). Puts l before after x) w.bytes v).left in
           let start : take g.len after ≡ bytes = ap (take g.len) left ∙ take_at bytes (drop (length bytes) before) g.len size in
           let frame = frame_is store front_of after g.len kind start in (
             (λ j. (after_is some_message a.some front_of j, done (frame j))) ∙ sym (goes a.some g a.inside a.fits),
@@ -443,11 +455,11 @@ module _ (s : ProducerState) (f : Full s) (d : FrameRecord) where
         planned : Planned s.core front_of (held_count kind s.core.rings.held.len) answer p
         planned = ok_planned s.core front_of (held_count kind s.core.rings.held.len) answer p (sym planned_is ∙ t)
 
-        pub takes_done : (after : List ℕ) (x : ℕ) → Puts (payload_of store kind p.span (held_first count)) 0 before after x
+        pub takes_done : (after : List ℕ) (x : ℕ) → Puts (payload_of store kind p.span (held_first count)) before after x
             → Takes store before after (Ok p.frame) (stored_as p)
         takes_done after x v =
             subst (λ (q : TakePlan). Takes store before after (Ok q.frame) (stored_as q)) planned.same
-            (done_is p.span planned.goes after x (subst (λ (c : ℕ). Puts (payload_of store kind p.span (held_first c)) 0 before after x) ce v))
+            (done_is p.span planned.goes after x (subst (λ (c : ℕ). Puts (payload_of store kind p.span (held_first c)) before after x) ce v))
 
         pub takes_writable : Writable store kind p.span (held_first count) before
         takes_writable = subst (λ (c : ℕ). Writable store kind p.span (held_first c) before) (sym ce) (writable_is p.span planned.goes)

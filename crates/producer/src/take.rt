@@ -10,7 +10,7 @@ use crate::state::ProducerState;
 use frames::held::Held;
 use frames::payload::put_payload;
 use frames::span::{held_count, payload_span};
-use rules::rings::{Ring, Rings};
+use rules::rings::Ring;
 use types::error::ProducerError;
 use types::outbound::OutboundFrame;
 
@@ -26,9 +26,9 @@ impl ProducerState {
         ensures kept { Kept (told_frame store.now buffer.new result) self.old self.new }
     {
         let rings = self.core.rings;
-        let at = rings.outbound.head % Rings::OUTBOUND;
+        let at = rings.outbound.slot(0);
         let front = self.outbound[at];
-        let count = held_count(front.kind, rings.held.len);
+        let count = held_count(front.kind, rings.held);
         let held = Held {
             messages: &self.held,
             ring: Ring {

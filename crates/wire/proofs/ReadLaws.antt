@@ -70,9 +70,6 @@ module _ (t tag : ℕ) (rest : List ℕ) (h : t ≤ tag) where
   unfolding varint_field
   later_number v = grind (arith, common_steps, later_key)
 
-  later_maybe_number : (x : Option ℕ) → Later t rest → Later t (optional (varint_field tag) x ++ rest)
-  later_maybe_number x l = grind (arith, later_number)
-
   later_maybe_bool : (x : Option Bool) → Later t rest → Later t (optional (bool_field tag) x ++ rest)
   later_maybe_bool x l = grind (arith, later_number)
 

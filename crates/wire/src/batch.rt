@@ -22,8 +22,8 @@ pub fn item_len(m: SingleMessage) -> usize
 // four say how many bytes it has written.
 #[tactic(auto, using(crate::proofs::Lengths::item_size, crate::specs::Fields::part_length))]
 pub fn put_item(out: &mut [u8], store: &[u8], m: SingleMessage) -> usize
-    requires { InStore (length store.now) m × Room (item (item_of store.now m)) 0 out.old }
-    ensures { Puts (item (item_of store.now m)) 0 out.old out.new result }
+    requires { InStore (length store.now) m × Room (item (item_of store.now m)) out.old }
+    ensures { Puts (item (item_of store.now m)) out.old out.new result }
 {
     let Part { start, len } = m.payload;
     let n = put_single(&mut out[4..], store, m);

@@ -6,7 +6,7 @@ ghost use Rattle.wire.specs.Buffer.{Puts};
 #[tactic(auto, unfolding(crate::specs::Proto::be32))]
 pub fn put_be32(out: &mut [u8], n: usize) -> usize
     requires { 4 ≤ length out.old }
-    ensures { Puts (be32 n) 0 out.old out.new result }
+    ensures { Puts (be32 n) out.old out.new result }
 {
     out[..4].copy_from_slice(&n.to_be_bytes()[4..]);
     4

@@ -2,7 +2,7 @@
 ghost use Rattle.std.specs.Prelude.{◌≡◌, ℕ, List, true, length, replicate, refl, None, Some};
 ghost use Rattle.std.specs.Option.{ForSome};
 ghost use Rattle.types.specs.Values.{part_of, part_in};
-ghost use Rattle.wire.specs.Proto.{varint_field, bytes_field, bool_field, optional};
+ghost use Rattle.wire.specs.Proto.{varint, key, varint_field, bytes_field, bool_field, optional};
 ghost use Rattle.wire.specs.Length.{stopped};
 ghost use Rattle.wire.specs.Buffer.{Room, Puts};
 ghost use Rattle.wire.specs.Fields.{part_field_length};
@@ -11,9 +11,17 @@ use crate::varint::{put_varint, varint_len};
 use types::message::Part;
 
 // Wire types.
-const VARINT: u64 = 0;
+const VARINT: u8 = 0;
 
-const LENGTH_DELIMITED: u64 = 2;
+const LENGTH_DELIMITED: u8 = 2;
+
+// The number whose varint is a field's key.
+#[tactic(auto, unfolding(crate::specs::Proto::key))]
+fn key(tag: u8, wire_type: u8) -> u64
+    ensures { varint result ≡ key tag wire_type }
+{
+    tag as u64 * 8 + wire_type as u64
+}
 
 // What a field can hold. A part's bytes are in the store that the caller lends.
 pub trait Field {
@@ -28,8 +36,8 @@ pub trait Field {
 
     fn put_field(self, out: &mut [u8], tag: u8, store: &[u8]) -> usize
         requires stored { stored (length store.now) self }
-        requires room { Room (bytes store.now tag self) 0 out.old }
-        ensures { Puts (bytes store.now tag self) 0 out.old out.new result };
+        requires room { Room (bytes store.now tag self) out.old }
+        ensures { Puts (bytes store.now tag self) out.old out.new result };
 
     // How many bytes `put_field` writes.
     fn field_len(self, tag: u8) -> usize
@@ -38,7 +46,7 @@ pub trait Field {
     ghost as_long: { (store : List ℕ) (tag : ℕ) (x : Self) → stored (length store) x → length (bytes store tag x) ≡ length (blank tag x) };
 }
 
-#[tactic(auto, using(crate::proofs::Writes::then), unfolding(crate::specs::Proto::varint_field, crate::specs::Proto::key))]
+#[tactic(auto, using(crate::proofs::Writes::then), unfolding(crate::specs::Proto::varint_field))]
 impl Field for u64 {
     ghost stored = { λ n v. Unit {0} };
 
@@ -49,12 +57,12 @@ impl Field for u64 {
     ghost as_long = { λ store tag v h. refl };
 
     fn put_field(self, out: &mut [u8], tag: u8, _store: &[u8]) -> usize {
-        let n = put_varint(out, tag as u64 * 8 + VARINT);
+        let n = put_varint(out, key(tag, VARINT));
         n + put_varint(&mut out[n..], self)
     }
 
     fn field_len(self, tag: u8) -> usize {
-        varint_len(tag as u64 * 8 + VARINT) + varint_len(self)
+        varint_len(key(tag, VARINT)) + varint_len(self)
     }
 }
 
@@ -77,7 +85,7 @@ impl Field for bool {
     }
 }
 
-#[tactic(auto, unfolding(crate::specs::Proto::bytes_field, crate::specs::Proto::key))]
+#[tactic(auto, unfolding(crate::specs::Proto::bytes_field))]
 impl Field for Part {
     ghost stored = { λ n p. part_in n p ≡ true };
 
@@ -89,14 +97,14 @@ impl Field for Part {
 
     fn put_field(self, out: &mut [u8], tag: u8, store: &[u8]) -> usize {
         let Part { start, len } = self;
-        let mut n = put_varint(out, tag as u64 * 8 + LENGTH_DELIMITED);
+        let mut n = put_varint(out, key(tag, LENGTH_DELIMITED));
         n += put_varint(&mut out[n..], len as u64);
         out[n..n + len].copy_from_slice(&store[start..start + len]);
         n + len
     }
 
     fn field_len(self, tag: u8) -> usize {
-        let head = varint_len(tag as u64 * 8 + LENGTH_DELIMITED) + varint_len(self.len as u64);
+        let head = varint_len(key(tag, LENGTH_DELIMITED)) + varint_len(self.len as u64);
         head.saturating_add(self.len)
     }
 }

@@ -25,8 +25,8 @@ pub fn single_len(m: SingleMessage) -> usize
 // Writes the single metadata to the start of `out`.
 #[tactic(auto, using(crate::proofs::Lengths::single_steps))]
 pub fn put_single(out: &mut [u8], store: &[u8], m: SingleMessage) -> usize
-    requires { InStore (length store.now) m × Room (single (metadata_of store.now m)) 0 out.old }
-    ensures { Puts (single (metadata_of store.now m)) 0 out.old out.new result }
+    requires { InStore (length store.now) m × Room (single (metadata_of store.now m)) out.old }
+    ensures { Puts (single (metadata_of store.now m)) out.old out.new result }
 {
     let mut n = m.partition_key.put_field(out, 2, store);
     n += (m.payload.len as u64).put_field(&mut out[n..], 3, store);

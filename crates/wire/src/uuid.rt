@@ -11,8 +11,8 @@ fn hex_digit(n: u8) -> u8
 }
 
 fn put_hex(out: &mut [u8], b: u8) -> usize
-    requires { Room (hex_byte b) 0 out.old }
-    ensures { Puts (hex_byte b) 0 out.old out.new result }
+    requires { Room (hex_byte b) out.old }
+    ensures { Puts (hex_byte b) out.old out.new result }
 {
     out[0] = hex_digit(b / 16);
     out[1] = hex_digit(b % 16);
@@ -20,8 +20,8 @@ fn put_hex(out: &mut [u8], b: u8) -> usize
 }
 
 fn put_dash(out: &mut [u8], i: usize) -> usize
-    requires { Room (dash i) 0 out.old }
-    ensures { Puts (dash i) 0 out.old out.new result }
+    requires { Room (dash i) out.old }
+    ensures { Puts (dash i) out.old out.new result }
 {
     match i {
         4 | 6 | 8 | 10 => {
@@ -33,8 +33,8 @@ fn put_dash(out: &mut [u8], i: usize) -> usize
 }
 
 fn put_uuid(out: &mut [u8], uuid: &[u8]) -> usize
-    requires { Room (text_from 0 uuid.now) 0 out.old }
-    ensures { Puts (text_from 0 uuid.now) 0 out.old out.new result }
+    requires { Room (text_from 0 uuid.now) out.old }
+    ensures { Puts (text_from 0 uuid.now) out.old out.new result }
 {
     let mut n = 0;
     for (i, b) in uuid.iter().enumerate() {

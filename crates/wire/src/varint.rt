@@ -17,8 +17,8 @@ pub fn varint_len(v: u64) -> usize
 }
 
 pub fn put_varint(out: &mut [u8], v: u64) -> usize
-    requires { Room (varint v) 0 out.old }
-    ensures { Puts (varint v) 0 out.old out.new result }
+    requires { Room (varint v) out.old }
+    ensures { Puts (varint v) out.old out.new result }
 {
     let mut rest = v;
     let mut n = 0;

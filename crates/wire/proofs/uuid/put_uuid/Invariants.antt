@@ -5,4 +5,4 @@ use Rattle.wire.proofs.Writes.{Going}
 use Rattle.wire.proofs.uuid.put_uuid.Given as goal
 
 abbrev pub invariant-loop-i : goal.invariant-loop-i
-invariant-loop-i l = Going (text_from 0 l.uuid) (text_from l.i (drop l.i l.uuid)) 0 l.initial.out l.out l.n
+invariant-loop-i l = Going (text_from 0 l.uuid) (text_from l.i (drop l.i l.uuid)) l.initial.out l.out l.n

@@ -2,7 +2,7 @@
 use mathlib.Core.Path.{◌≡◌}
 use Prim.Native.Nat.{◌≤◌, min}
 use lib.ListN.{length, drop}
-use Rattle.laws.specs.Ring.{ring}
+use Rattle.frames.specs.Held.{held_of}
 use Rattle.wire.specs.Batch.{batch_payload}
 use Rattle.wire.proofs.Writes.{Going}
 use Rattle.frames.proofs.held.Held.put.Given as goal
@@ -10,5 +10,5 @@ use Rattle.frames.proofs.held.Held.put.Given as goal
 abbrev pub invariant-loop-i : goal.invariant-loop-i
 invariant-loop-i l =
     let s = l.self in
-    let ms = ring 512 s.messages.now s.ring.head s.ring.len in
-    (l.i ≤ min s.ring.len 512) × Going (batch_payload l.store ms) (batch_payload l.store (drop l.i ms)) 0 l.initial.out l.out l.to × (length l.out ≡ length l.initial.out)
+    let ms = held_of s in
+    (l.i ≤ min s.ring.len 512) × Going (batch_payload l.store ms) (batch_payload l.store (drop l.i ms)) l.initial.out l.out l.to × (length l.out ≡ length l.initial.out)

@@ -1,6 +1,6 @@
 -- `frames::held::Held::span`: what is tested and added up, with what is still to come, is that of the whole batch.
 use Rattle.std.proofs.Common.{◌<◌, min, sym, ap, ◌∙◌, arith}
-use Rattle.laws.specs.Ring.{ring}
+use Rattle.frames.specs.Held.{held_of}
 use Rattle.frames.specs.Span.{with_item}
 use Rattle.frames.proofs.Batches.{spans_step, spans_stop, spans_all, held_length, held_at}
 use Rattle.frames.proofs.held.Held.span.Goals as goal
@@ -13,7 +13,7 @@ loop-i-preserved c =
     let here : l.i < min s.ring.len 512 = omega arith in
     let long = held_length s.messages.now s.full s.ring.head s.ring.len in (
       omega arith,
-      spans_step a.n (ring 512 s.messages.now s.ring.head s.ring.len) l.span l.i _ (omega (arith, long)) l.invariant.1 _
+      spans_step a.n (held_of s) l.span l.i _ (omega (arith, long)) l.invariant.1 _
           (ap (with_item a.n l.span) (held_at s.messages.now s.full s.ring.head s.ring.len l.i _ _ c.slot.ensures here) ∙ sym c.with_item.ensures ∙ c.in_ok-span.was),
     )
 
@@ -25,7 +25,7 @@ returns-in_err-span c =
     let here : l.i < min s.ring.len 512 = omega arith in
     let long = held_length s.messages.now s.full s.ring.head s.ring.len in
     c.from_residual.ensures
-    ∙ spans_stop a.n (ring 512 s.messages.now s.ring.head s.ring.len) l.span l.i _ (omega (arith, long)) l.invariant.1
+    ∙ spans_stop a.n (held_of s) l.span l.i _ (omega (arith, long)) l.invariant.1
     (ap (with_item a.n l.span) (held_at s.messages.now s.full s.ring.head s.ring.len l.i _ _ c.slot.ensures here) ∙ sym c.with_item.ensures ∙ c.in_err-span.was)
 
 pub returns : goal.returns
@@ -34,4 +34,4 @@ returns c =
     let s = a.self in
     let l = c.loop-i in
     let long = held_length s.messages.now s.full s.ring.head s.ring.len in
-    spans_all a.n (ring 512 s.messages.now s.ring.head s.ring.len) l.span l.i (omega (arith, long)) l.invariant.1
+    spans_all a.n (held_of s) l.span l.i (omega (arith, long)) l.invariant.1

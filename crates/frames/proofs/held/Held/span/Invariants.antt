@@ -1,9 +1,9 @@
 -- `frames::held::Held::span`: what is tested and added up, with what is still to come, is that of the whole batch.
 use Prim.Native.Nat.{◌≤◌, min}
-use Rattle.laws.specs.Ring.{ring}
+use Rattle.frames.specs.Held.{held_of}
 use Rattle.frames.proofs.Batches.{Spans}
 use Rattle.frames.proofs.held.Held.span.Given as goal
 
 abbrev pub invariant-loop-i : goal.invariant-loop-i
 invariant-loop-i l =
-    (l.i ≤ min l.self.ring.len 512) × Spans l.n (ring 512 l.self.messages.now l.self.ring.head l.self.ring.len) l.span l.i
+    (l.i ≤ min l.self.ring.len 512) × Spans l.n (held_of l.self) l.span l.i

@@ -15,7 +15,7 @@ put_payload-requires c =
     let short : length before < 2 ^ 63 = omega arith in
     let count = c.held_count-count in
     let got = c.payload_span-span in
-    takes_writable s f _ store before small short got.result count.result count.ensures got.ensures c.plan_take.result c.plan_take.ensures
+    takes_writable s f _ _ c.slot-at.ensures store before small short got.result count.result count.ensures got.ensures c.plan_take.result c.plan_take.ensures
     c.in_ok-plan.plan c.in_ok-plan.was
 
 pub returns : goal.returns
@@ -29,7 +29,7 @@ returns c =
     let count = c.held_count-count in
     let got = c.payload_span-span in
     let both =
-    takes_done s f _ store before small short got.result count.result count.ensures got.ensures c.plan_take.result c.plan_take.ensures
+    takes_done s f _ _ c.slot-at.ensures store before small short got.result count.result count.ensures got.ensures c.plan_take.result c.plan_take.ensures
     c.in_ok-plan.plan c.in_ok-plan.was _ _ c.put_payload.ensures in
     record { result_after = both.0; buffer_after = both.1.0; kept = both.1.1 }
 
@@ -44,7 +44,7 @@ returns-in_err-plan c =
     let count = c.held_count-count in
     let got = c.payload_span-span in
     let both =
-    takes_refused s f _ store before small short got.result count.result count.ensures got.ensures c.plan_take.result c.plan_take.ensures
+    takes_refused s f _ _ c.slot-at.ensures store before small short got.result count.result count.ensures got.ensures c.plan_take.result c.plan_take.ensures
     _ c.in_err-plan.was in
     let p = err_from_is_err_and c.from_residual.result c.from_residual.ensures.1 in
     record { result_after = rw (p.1, p.2) both.0; buffer_after = rw p.1 both.1.0; kept = rw p.1 both.1.1 }

@@ -1,0 +1,8 @@
+-- The messages of one batch frame.
+use Rattle.std.specs.Prelude.{List}
+use Rattle.laws.specs.Ring.{ring}
+use Rattle.types.specs.declared.message.SingleMessage.{SingleMessage}
+use Rattle.frames.specs.declared.held.Held.{Held}
+
+abbrev pub held_of : Held → List SingleMessage
+held_of h = ring 512 h.messages.now h.ring.head h.ring.len
