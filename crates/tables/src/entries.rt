@@ -28,7 +28,7 @@ pub fn frames_of(replay: Replay) -> usize
 }
 
 // What a replay pushes; nothing of a batched entry. A chunked message starts anew, however many of its chunks had been taken.
-fn kind_again(replay: Replay) -> Option<FrameKind>
+pub fn kind_again(replay: Replay) -> Option<FrameKind>
     ensures { result ≡ unless_batched replay (kind_again replay) }
 {
     match replay {
