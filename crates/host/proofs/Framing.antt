@@ -1,5 +1,5 @@
 -- Writes around bytes that stand already, and into a part that is lent. Assumes nothing.
-use Rattle.std.proofs.Common.{◌≡◌, ℕ, ◌+◌, ◌-◌, ◌≤◌, List, ◌++◌, length, take, drop, sym, ap, ◌∙◌, subst, arith, length-append, length-drop, take-append-drop, length-take-le, drop-drop, take_at}
+use Rattle.std.proofs.Common.{◌≡◌, ℕ, ◌+◌, ◌-◌, ◌≤◌, List, ◌++◌, length, take, drop, sym, ap, ◌∙◌, arith, length-append, length-drop, take-append-drop, length-take-le, drop-drop, take_at}
 use lib.Seq.{drop-append-add, drop-append-le}
 use Rattle.script.specs.Output.{Wrote}
 use Rattle.script.proofs.Outputs.{next, further, less_front, less_rest}
@@ -59,13 +59,3 @@ framed {d} {ys} {e} {at} {start} {k} n h l v w first s =
 -- nothing stands there
 pub none_stands : {d e : List ℕ} {at start r : ℕ} → Wrote at d e r → Completes at start 0 d e r
 none_stands {d} {e} {at} {start} {r} w first s = rw (unchanged s (omega arith)) at w
-
--- what was written from `start` on stands there
-pub completed : {first d e : List ℕ} {at start m r : ℕ} → Completes at start (m - start) d e r → Wrote start first d m → Wrote at first e r
-completed {first} {d} {e} {at} {start} {m} {r} c w =
-    let h = w.onward in
-    let k : m ≡ start + (m - start) = omega arith in
-    c first (subst (λ (j : ℕ). Wrote start first d j) k w)
-
-pub laid_inside : {first d : List ℕ} {start m : ℕ} → Wrote start first d m → start ≤ length first → start + (m - start) ≤ length d
-laid_inside w h = let a = w.onward in let b = w.within in let e = w.same in omega arith
