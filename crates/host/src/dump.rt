@@ -11,7 +11,7 @@ pub fn put_dump(s: &ProducerState, out: &mut Output)
 {
     let ring = s.core.rings.pending;
     put_done(out, Call::Dump, ());
-    put_core(out, s.core, s.pending[ring.slot(0)].enqueued_at);
+    put_core(out, s.core, s.send_deadline());
     out.put(low_half(ring.count() as u64));
     for i in 0..ring.count() {
         let at = ring.slot(i);

@@ -294,11 +294,11 @@ impl Put for SequenceIds {
     }
 }
 
-// All of a dump but the pending entries; `enqueued_at` is that of the front one.
-pub fn put_core(out: &mut Output, c: Core, enqueued_at: u64)
+// All of a dump but the pending entries; the deadline is that of the front one.
+pub fn put_core(out: &mut Output, c: Core, send_deadline: Option<u64>)
     ensures { Writes out.old out.new }
 {
     out.put((c.handle, c.settings, c.ids, c.counters));
-    out.put((c.rings.waiting, c.rings.held.len.min(512), c.batch));
-    out.put((c.next_send_deadline(enqueued_at), c.next_batch_deadline()));
+    out.put((c.rings.waiting, c.rings.held.count(), c.batch));
+    out.put((send_deadline, c.next_batch_deadline()));
 }
