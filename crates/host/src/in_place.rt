@@ -119,7 +119,7 @@ impl Drive for InPlace {
             | Call::ReplaySnapshots
             | Call::ReplayLastSnapshot
             | Call::ReplayPendingOutbound
-            | Call::Dump => { self.by_value(task, out) }
+            | Call::Dump => self.by_value(task, out),
             Call::SetInitialSequenceId
             | Call::SetName
             | Call::SetMaxMessageSize

@@ -1,5 +1,5 @@
 // The take, with the output itself as the buffer: the payload stands 10 bytes behind the answer's start.
-ghost use Rattle.std.specs.Prelude.{◌≡◌, ◌+◌, ◌-◌, ◌≤◌, length};
+ghost use Rattle.std.specs.Prelude.{◌≡◌, ◌-◌, ◌≤◌, length};
 ghost use Rattle.script.specs.Output.{Wrote, Writes};
 ghost use Rattle.host.specs.Framing.{Completes, taken};
 
@@ -16,13 +16,13 @@ use types::outbound::OutboundFrame;
 pub(crate) struct Buffer {
     pub start: usize,
     pub end: usize,
+    ghost onward: { start ≤ end },
 }
 
 // The payload behind the head of a frame's answer, as far as the output goes.
 pub(crate) fn buffer_of(task: Task, out: &Output) -> Buffer
     requires { out.now.at ≤ length out.now.bytes.now }
     ensures behind { out.now.at ≤ result.start }
-    ensures onward { result.start ≤ result.end }
     ensures inside { result.end ≤ length out.now.bytes.now }
 {
     let len = out.bytes.len();
@@ -40,39 +40,24 @@ fn put_frame_head(out: &mut [u8], n: usize) -> usize
     head.at
 }
 
-// A frame whose payload, `n` bytes, stands from `start` on already.
-pub(crate) fn put_frame(
-    out: &mut Output,
-    start: usize,
-    n: usize,
-    store: &[u8],
-    frame: OutboundFrame,
-)
-    requires { (out.old.at ≤ start) × (start + n ≤ length out.old.bytes.now) }
-    ensures same_reference { out.new.bytes.ghost_name ≡ out.old.bytes.ghost_name }
-    ensures completes { Completes out.old.at start n out.old.bytes.now out.new.bytes.now out.new.at }
-{
-    put_frame_head(&mut out.bytes[out.at..start], n);
-    out.at = start + n;
-    out.put(frame.command);
-    put_metadata(out, store, frame.metadata);
-}
-
-// The answer of a take that was lent a part of the output as its buffer.
+// The answer of a take that was lent a part of the output as its buffer: a frame's payload stands there already.
 pub(crate) fn put_taken(
     out: &mut Output,
     buffer: Buffer,
     store: &[u8],
     answer: Result<OutboundFrame, ProducerError>,
 )
-    requires { (out.old.at ≤ buffer.start) × ((buffer.start ≤ buffer.end) × (buffer.end ≤ length out.old.bytes.now)) }
+    requires { (out.old.at ≤ buffer.start) × (buffer.end ≤ length out.old.bytes.now) }
     ensures same_reference { out.new.bytes.ghost_name ≡ out.old.bytes.ghost_name }
     ensures completes { Completes out.old.at buffer.start (taken answer (buffer.end - buffer.start)) out.old.bytes.now out.new.bytes.now out.new.at }
 {
     match answer {
         Ok(frame) => {
             let n = frame.payload_len.min(buffer.end - buffer.start);
-            put_frame(out, buffer.start, n, store, frame);
+            put_frame_head(&mut out.bytes[out.at..buffer.start], n);
+            out.at = buffer.start + n;
+            out.put(frame.command);
+            put_metadata(out, store, frame.metadata);
         }
         Err(e) => out.put((Call::NextOutboundFrame, e)),
     }

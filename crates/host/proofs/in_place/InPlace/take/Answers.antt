@@ -6,8 +6,8 @@ use Rattle.host.proofs.in_place.InPlace.take.Goals as goal
 pub returns : goal.returns
 returns c =
     let r = c.take_front-answer in
-    let b = c.buffer_of-buffer.ensures in
+    let b = c.buffer_of-buffer in
     record {
       same_reference = c.put_taken.ensures.same_reference;
-      wrote = took _ r.result r.ensures.buffer_after c.put_taken.ensures.completes b.onward b.inside (search rules);
+      wrote = took _ r.result r.ensures.buffer_after c.put_taken.ensures.completes b.result.onward b.ensures.inside (search rules);
     }
