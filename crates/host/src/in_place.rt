@@ -1,5 +1,5 @@
-// Each operation by the plan of its public method, applied where the state stands: no ring is copied but for the operations on
-// whole tables and the dump (docs/DECISIONS.md, 'What a call costs').
+// Each operation by the steps of its public method, on the state where it stands: no ring is copied but for the operations on
+// whole tables, the replays and the dump (docs/DECISIONS.md, 'What a call costs').
 ghost use Rattle.std.specs.Prelude.{◌≤◌, length};
 ghost use Rattle.script.specs.Output.{Writes};
 

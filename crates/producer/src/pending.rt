@@ -20,7 +20,7 @@ fn op_of(id: u64, mark: u8, publish: Publish) -> OpSend
 }
 
 impl ProducerState {
-    // The entry at a place from the oldest one.
+    // The entry at a place from the oldest one. The marks are counted as in `place_of`.
     pub(crate) fn op_at(&self, place: usize) -> OpSend
         ensures marks { length self.now.pending_marks ≡ 256 }
         ensures entry { slice_index_or (view self.now).pending place result ≡ result }

@@ -45,8 +45,8 @@ impl ProducerState {
         }
     }
 
-    // Where the first entry stands that bears the id, if the id is answerable. How many marks there are is said here, since
-    // behind a `&mut` the check tells a function the lengths of four arrays.
+    // Where the first entry stands that bears the id, if the id is answerable. How many marks there are is said for callers that
+    // have the state by `&mut`, whom the check tells the lengths of four arrays.
     pub fn place_of(&self, id: u64) -> Option<usize>
         ensures marks { length self.now.pending_marks ≡ 256 }
         ensures place { result ≡ located id (searched self.now.pending_ids self.now.pending_marks self.now.core.rings.pending) }

@@ -1,4 +1,4 @@
-// What the operations of a script bring: messages and entries (docs/SCRIPT.md).
+// What the operations of a script bring: messages, entries, receipts and errors (docs/SCRIPT.md).
 use crate::read::{Get, Place};
 use types::command::{CommandSendError, CommandSendReceipt};
 use types::entry::{OpSend, Publish, Replay};
