@@ -10,7 +10,7 @@ ghost use Rattle.producer.specs.View.{view};
 
 use crate::answer::Answered;
 use crate::state::ProducerState;
-use tables::entries::{again, all_well_formed, frames_of};
+use tables::entries::{all_well_formed, frame_again, frames_of};
 use tables::list::Listed;
 use tables::pick::picked;
 use tables::pushes::frames_for;
@@ -25,7 +25,9 @@ impl ProducerState {
         ensures { view self.new ≡ with_out (fronted ops.now (view self.old).out) (view self.old) }
     {
         for op in ops.iter().rev() {
-            let p = self.core.front(again(*op), frames_of(op.publish.replay));
+            let p = self
+                .core
+                .front(frame_again(*op), frames_of(op.publish.replay));
             self.core = p.core;
             self.store_frame(p.put);
         }

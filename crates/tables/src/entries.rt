@@ -27,29 +27,35 @@ pub fn frames_of(replay: Replay) -> usize
     }
 }
 
-// What a replay pushes; nothing of a batched entry. A chunked message starts anew, however many of its chunks had been taken.
-pub fn kind_again(replay: Replay) -> Option<FrameKind>
-    ensures { result ≡ unless_batched replay (kind_again replay) }
+// A chunked message starts anew, however many of its chunks had been taken.
+pub fn kind_again(replay: Replay) -> FrameKind
+    ensures { result ≡ kind_again replay }
 {
     match replay {
-        Replay::Batched => None,
-        Replay::Single => Some(FrameKind::Single),
+        Replay::Batched | Replay::Single => FrameKind::Single,
         Replay::Chunked {
             total_chunks,
             max_chunk_size,
-        } => Some(FrameKind::Chunked(ChunkedMessageContext {
+        } => FrameKind::Chunked(ChunkedMessageContext {
             total_chunks,
             next_chunk: 0,
             max_chunk_size,
-        })),
+        }),
     }
 }
 
-// The frame record that a replay pushes, if any.
-pub fn again(op: OpSend) -> Option<FrameRecord>
+// An entry's message as a frame record, chunks from the first on.
+pub fn again(op: OpSend) -> FrameRecord
+    ensures { result ≡ again op }
+{
+    frame_of(op.sequence_id, op.publish, kind_again(op.publish.replay))
+}
+
+// What a replay pushes of an entry: nothing of a batched one.
+pub fn frame_again(op: OpSend) -> Option<FrameRecord>
     ensures { result ≡ unless_batched op.publish.replay (again op) }
 {
-    kind_again(op.publish.replay).map(|kind| frame_of(op.sequence_id, op.publish, kind))
+    (!is_batched(op.publish.replay)).then_some(again(op))
 }
 
 // 12. The message's bounds and the chunk count matter where the entry has frames.

@@ -22,7 +22,7 @@ loop-op-preserved c =
     let a = c.args in
     let k = c.loop-op in
     let rest = c.next.new.self.iter.rest.now in
-    let planned = c.front-p.ensures ∙ (λ j. fronted_core (c.again.ensures j) (c.frames_of.ensures j) k.self.core) in
+    let planned = c.front-p.ensures ∙ (λ j. fronted_core (c.frame_again.ensures j) (c.frames_of.ensures j) k.self.core) in
     subst (λ (t : ProducerState). Fronting a.self.now a.ops.now t rest) (sym c.store_frame.ensures)
     (fronting_step a.self.now a.ops.now k.self _ rest c.in-Some.op.now k.invariant c.in-Some.ensures.steps c.front-p.result planned)
 
