@@ -130,7 +130,7 @@ module _ (store : List ℕ) (q : Queue) (k : Well q) where
   table_len false p x e = record { len = e }
 
   step_len : (c : Call) → Leaves (joined_by store q c (len_in q)) (step store c q)
-  unfolding step queue_send flush_batch next_outbound_frame apply_receipt apply_send_error drain_timed_out_sends set_initial_sequence_id settings.set settings.set_name settings.close drain_pending_sends snapshot_pending_sends replay_snapshots replay_pending_outbound
+  unfolding queue_send flush_batch next_outbound_frame apply_receipt apply_send_error drain_timed_out_sends set_initial_sequence_id settings.set settings.set_name settings.close drain_pending_sends snapshot_pending_sends replay_snapshots replay_pending_outbound
   step_len (send a) =
       plan_cases (length store) a q (λ p. Leaves (joined_plan p (len_in q)) (carried_out a q p)) (λ n. stays)
       (λ i b passed. record { len = follow_len a _ q (omega (arith, k.out.shared, k.out.held)) })

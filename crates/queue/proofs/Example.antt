@@ -22,7 +22,7 @@ use Rattle.queue.specs.Frame.{Frame}
 use Rattle.queue.specs.Take.{next_outbound_frame}
 use Rattle.queue.specs.Message.{Message}
 use Rattle.queue.specs.Read.{read_frame, read_from, read}
-use Rattle.queue.specs.Run.{Call, send, take, set, step, after, taken, accepted, Waiting, none_waits, one_waits}
+use Rattle.queue.specs.Run.{Call, send, take, set, after, taken, accepted, Waiting, none_waits, one_waits}
 use Rattle.queue.specs.Order.{Premises}
 use Rattle.types.specs.declared.message.Part.{Part}
 
@@ -88,7 +88,7 @@ payloads_taken : payloads (taken store start calls)
     ∷ (0 ∷ 0 ∷ 0 ∷ 4 ∷ 0x12 ∷ 0 ∷ 0x18 ∷ 1 ∷ 0x61 ∷ 0 ∷ 0 ∷ 0 ∷ 5 ∷ 0x18 ∷ 1 ∷ 0x28 ∷ 0x80 ∷ 1 ∷ 0x62 ∷ 0 ∷ 0 ∷ 0 ∷ 4 ∷ 0x18 ∷ 3 ∷ 0x48 ∷ 0 ∷ 0x6b ∷ 0x65 ∷ 0x79 ∷ [])
     ∷ (0x71 ∷ 0x75 ∷ [])
     ∷ []
-unfolding taken step settings.set queue_send plan flushes_before can_add_to_batch follow flushed add_to_batch emit_single emit_chunked next_outbound_frame items item single varint_field bytes_field key varint varint_by be32
+unfolding taken settings.set queue_send plan flushes_before can_add_to_batch follow flushed add_to_batch emit_single emit_chunked next_outbound_frame items item single varint_field bytes_field key varint varint_by be32
 payloads_taken = refl
 
 -- the two that wait, and then 10
@@ -96,7 +96,7 @@ abbrev waiting : List Frame
 waiting = taken store (after store start calls) (take 2 ∷ take 1 ∷ [])
 
 waits : Waiting store (after store start calls) waiting
-unfolding after taken step settings.set queue_send plan flushes_before can_add_to_batch follow flushed add_to_batch emit_single emit_chunked next_outbound_frame items item single varint_field bytes_field key varint varint_by be32
+unfolding after taken settings.set queue_send plan flushes_before can_add_to_batch follow flushed add_to_batch emit_single emit_chunked next_outbound_frame items item single varint_field bytes_field key varint varint_by be32
 waits = one_waits 2 refl (one_waits 1 refl (none_waits 0 refl))
 
 -- payload, partition key, event time, null value and transaction of a message that has no ordering key and no other mark
@@ -122,16 +122,16 @@ messages =
     ∷ []
 
 messages_accepted : accepted store start calls ≡ messages
-unfolding accepted step settings.set queue_send plan flushes_before can_add_to_batch follow flushed add_to_batch emit_single emit_chunked next_outbound_frame items item single varint_field bytes_field key varint varint_by be32
+unfolding accepted settings.set queue_send plan flushes_before can_add_to_batch follow flushed add_to_batch emit_single emit_chunked next_outbound_frame items item single varint_field bytes_field key varint varint_by be32
 messages_accepted = refl
 
 messages_read : read (taken store start calls ++ waiting) ≡ Some messages
-unfolding after taken step settings.set queue_send plan flushes_before can_add_to_batch follow flushed add_to_batch emit_single emit_chunked next_outbound_frame items item single varint_field bytes_field key varint varint_by be32 read read_from read_frame read_items read_item read_be32 read_count read_single read_fields read_bytes read_below after_key read_varint
+unfolding after taken settings.set queue_send plan flushes_before can_add_to_batch follow flushed add_to_batch emit_single emit_chunked next_outbound_frame items item single varint_field bytes_field key varint varint_by be32 read read_from read_frame read_items read_item read_be32 read_count read_single read_fields read_bytes read_below after_key read_varint
 messages_read = refl
 
 -- the run meets the premises of the order rule
 premises : Premises store (record { 0 = 3 }) calls
-unfolding after step settings.set queue_send plan flushes_before can_add_to_batch follow flushed add_to_batch emit_single emit_chunked next_outbound_frame items item single varint_field bytes_field key varint varint_by be32
+unfolding after settings.set queue_send plan flushes_before can_add_to_batch follow flushed add_to_batch emit_single emit_chunked next_outbound_frame items item single varint_field bytes_field key varint varint_by be32
 premises =
     record {
       covered = (omega arith, (tt, (tt, (omega arith, (omega arith, (tt, (tt, (omega arith, (tt, (tt, (tt, (omega arith, (tt, (tt, tt))))))))))))));

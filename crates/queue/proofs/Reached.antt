@@ -25,7 +25,7 @@ use Rattle.queue.specs.Batch.{too_many, flush_batch, is_empty, may_join}
 use Rattle.queue.specs.Send.{Sending, Decision, large, total_chunks, way_into, way_of, flushes_before, pushes, joins, is_too_large, message_in, within_bounds, Plan, no, go, plan, add_to_batch, flush_if, follow, carried_out, queue_send}
 use Rattle.queue.specs.Frame.{Frame, first_frame, frame_in}
 use Rattle.queue.specs.Take.{take_from, next_outbound_frame}
-use Rattle.queue.specs.Settle.{settled, settle, answerable, found, apply_receipt, apply_send_error, due_count, unmark_all, hand_out, drain_timed_out_sends}
+use Rattle.queue.specs.Settle.{Handed, settled, settle, answerable, found, apply_receipt, apply_send_error, due_count, unmark_all, hand_out, drain_timed_out_sends}
 use Rattle.queue.specs.Tables.{drain_pending_sends, batched_of, framed_of, snapshot_pending_sends, all_well_formed, frames_for, again, fronted, replay_snapshots, unborne, replay_pending_outbound}
 use Rattle.queue.specs.Run.{Call, send, flush, take, receipt, send_error, timeouts, initial_id, set, set_name, close, query, drain, snapshot, replay, resend, Ranged, AllRanged, step, after}
 use Rattle.laws.proofs.Choice.{pick_ind, false_true}
@@ -126,7 +126,7 @@ module _ (store : List ℕ) (q : Queue) (k : Well q) where
   settle_well id give change f false op = k
 
   hand_out_well : (room : ℕ) (gone : List OpSend) (p : Queue) → Well p → Well (hand_out room gone q p).0
-  hand_out_well room gone p h = pick_ind (λ (x : Outcome (List OpSend)). Well x.0) (ltb room (length gone)) _ _ (λ e. k) (λ e. h)
+  hand_out_well room gone p h = pick_ind (λ (x : Outcome Handed). Well x.0) (ltb room (length gone)) _ _ (λ e. k) (λ e. h)
 
   -- ── replays ──
 
@@ -183,7 +183,7 @@ module _ (store : List ℕ) (q : Queue) (k : Well q) where
   empty_well p e f = record { out = rw e empty_sound; pending = rw f (record { few = omega arith; formed = tt }) }
 
   pub step_well : (c : Call) → Ranged c → Well (step store c q).0
-  unfolding step flush_batch next_outbound_frame apply_receipt apply_send_error drain_timed_out_sends set_initial_sequence_id settings.set settings.set_name settings.close drain_pending_sends snapshot_pending_sends
+  unfolding flush_batch next_outbound_frame apply_receipt apply_send_error drain_timed_out_sends set_initial_sequence_id settings.set settings.set_name settings.close drain_pending_sends snapshot_pending_sends
   step_well (send a) is64 = send_well a is64
   step_well (flush time) is64 =
       let P : Outcome ℕ → Type 0 = λ x. Well x.0 in
@@ -209,7 +209,7 @@ module _ (store : List ℕ) (q : Queue) (k : Well q) where
   step_well (drain room) is64 =
       hand_out_well room q.pending (with_out empty_outgoing (with_pending [] q)) (empty_well (with_out empty_outgoing (with_pending [] q)) refl refl)
   step_well (snapshot droppedRoom replayRoom) is64 =
-      pick_ind (λ (x : Outcome (List OpSend × List OpSend)). Well x.0)
+      pick_ind (λ (x : Outcome (Handed × Handed)). Well x.0)
       (ltb droppedRoom (length (batched_of q.pending)) || ltb replayRoom (length (framed_of q.pending))) _ _
       (λ x. k)
       (λ x. empty_well _ refl refl)

@@ -15,6 +15,7 @@ use Rattle.types.specs.declared.settings.Setting.TheVariants.{BrokerReady}
 use Rattle.wire.specs.Batch.{All}
 use Rattle.queue.specs.Queue.{Queue, Outcome, done, refuse, new_queue, empty_outgoing, with_pending, with_out}
 use Rattle.queue.specs.Settings.{changed}
+use Rattle.queue.specs.Settle.{Handed, handed}
 use Rattle.queue.specs.Tables.{is_batched, batched_of, framed_of, failed, frames_for, again, mark, borne, unborne, snapshot_pending_sends, replay_snapshots, replay_pending_outbound}
 use Rattle.queue.specs.Run.{after}
 use Rattle.queue.specs.Restore.{RestoreRule}
@@ -94,20 +95,20 @@ record Snapped (q p : Queue) (droppedTable replayTable : List OpSend) : Type 0 w
   dropped : droppedTable ≡ batched_of q.pending
   kept : replayTable ≡ framed_of q.pending
 
-snapshot_is : (droppedRoom replayRoom : ℕ) (q p : Queue) (d r : List OpSend) → snapshot_pending_sends droppedRoom replayRoom q ≡ (p, done (d, r))
+snapshot_is : (droppedRoom replayRoom : ℕ) (q p : Queue) (d r : List OpSend) → snapshot_pending_sends droppedRoom replayRoom q ≡ (p, done (handed d, handed r))
     → Snapped q p d r
 unfolding snapshot_pending_sends
 snapshot_is droppedRoom replayRoom q p d r e =
     go (ltb droppedRoom (length (batched_of q.pending)) || ltb replayRoom (length (framed_of q.pending))) e
   where
-    go : (b : Bool) → pick {A = Outcome (List OpSend × List OpSend)} b (refuse 9 q) (snapped q, done (batched_of q.pending, framed_of q.pending)) ≡ (p, done (d, r))
+    go : (b : Bool) → pick {A = Outcome (Handed × Handed)} b (refuse 9 q) (snapped q, done (handed (batched_of q.pending), handed (framed_of q.pending))) ≡ (p, done (handed d, handed r))
         → Snapped q p d r
     go true e = differ (cc (ap (λ x. x.1) e))
     go false e =
-        let given : List OpSend × List OpSend = (d, r) in
-        let written : List OpSend × List OpSend = (batched_of q.pending, framed_of q.pending) in
+        let given : Handed × Handed = (handed d, handed r) in
+        let written : Handed × Handed = (handed (batched_of q.pending), handed (framed_of q.pending)) in
         let tables : given ≡ written = cc (ap (λ x. x.1) e) in
-        record { queue = sym (ap (λ x. x.0) e); dropped = ap (λ x. x.0) tables; kept = ap (λ x. x.1) tables }
+        record { queue = sym (ap (λ x. x.0) e); dropped = ap (λ x. x.0.entries) tables; kept = ap (λ x. x.1.entries) tables }
 
 module _ (q : Queue) (l : List OpSend) (formed : EachFormed l) (framed : framed_of l ≡ l) (few : length l ≤ 256) (room : frames_for l ≤ 1024) where
   replay_is : replay_snapshots l (snapped q) ≡ (restored l q, done tt)

@@ -81,7 +81,7 @@ module _ (store : List ℕ) (q : Queue) (took : List Frame) (acc : List Message)
   refused_holds false n p x h = absurd h
 
   pub step_holds : (c : Call) → Ranged c → Covered store q c → Keeps store q c took acc all (step store c q)
-  unfolding stay step flush_batch apply_receipt apply_send_error drain_timed_out_sends set_initial_sequence_id settings.set settings.set_name settings.close drain_pending_sends snapshot_pending_sends replay_snapshots replay_pending_outbound flushed
+  unfolding stay flush_batch apply_receipt apply_send_error drain_timed_out_sends set_initial_sequence_id settings.set settings.set_name settings.close drain_pending_sends snapshot_pending_sends replay_snapshots replay_pending_outbound flushed
   step_holds (send a) is64 covered = send_holds store q took acc all k w a is64 covered
   step_holds (flush time) is64 covered =
       let P : Outcome ℕ → Type 0 = Keeps store q (flush time) took acc all in

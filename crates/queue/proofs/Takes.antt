@@ -12,7 +12,7 @@ use Rattle.types.specs.declared.message.SingleMessage.{SingleMessage}
 use Rattle.queue.specs.Queue.{Queue, Outgoing, refused, done, refuse, with_out}
 use Rattle.queue.specs.Frame.{Frame}
 use Rattle.queue.specs.Take.{next_outbound_frame}
-use Rattle.queue.specs.Run.{take, step, Waiting, none_waits, one_waits}
+use Rattle.queue.specs.Run.{take, Waiting, none_waits, one_waits}
 use Rattle.queue.proofs.Moves.{Well}
 use Rattle.queue.proofs.Reached.{step_well}
 use Rattle.queue.proofs.Groups.{Group, Stands, Next, next, none_left, frames_all}
@@ -26,7 +26,6 @@ taken_whole store q g gs ms x =
     x.takes n ∙ rw (le-ltb n n (omega arith))
 
 well_left : (store : List ℕ) (q p : Queue) (f : Frame) (room : ℕ) → Well q → next_outbound_frame store room q ≡ (p, done f) → Well p
-unfolding step
 well_left store q p f room w e = rw e at (step_well store q w (take room) tt)
 
 -- they yield all waiting frames, and then 10

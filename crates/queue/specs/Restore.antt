@@ -4,6 +4,7 @@ use Rattle.types.specs.declared.entry.OpSend.{OpSend}
 use Rattle.types.specs.declared.types.ProducerHandle.{ProducerHandle}
 use Rattle.wire.specs.Batch.{All}
 use Rattle.queue.specs.Queue.{Queue, Outcome, done, new_queue}
+use Rattle.queue.specs.Settle.{handed}
 use Rattle.queue.specs.Tables.{batched_of, framed_of, frames_for, again, mark, snapshot_pending_sends, replay_snapshots, replay_pending_outbound}
 use Rattle.queue.specs.Run.{Call, AllRanged, after}
 
@@ -25,6 +26,6 @@ abbrev pub RestoreRule : Type 0
 RestoreRule =
     (store : List ℕ) (handle : ProducerHandle) (cs : List Call) → AllRanged cs
     → (droppedRoom replayRoom : ℕ) (p : Queue) (droppedTable replayTable : List OpSend)
-    → snapshot_pending_sends droppedRoom replayRoom (after store (new_queue handle) cs) ≡ (p, done (droppedTable, replayTable))
+    → snapshot_pending_sends droppedRoom replayRoom (after store (new_queue handle) cs) ≡ (p, done (handed droppedTable, handed replayTable))
     → frames_for replayTable ≤ 1024
     → Restored (after store (new_queue handle) cs) droppedTable replayTable (replay_snapshots replayTable p)

@@ -11,7 +11,7 @@ use Rattle.queue.specs.Batch.{flush_batch}
 use Rattle.queue.specs.Send.{Sending, Decision, queue_send}
 use Rattle.queue.specs.Frame.{Frame}
 use Rattle.queue.specs.Take.{next_outbound_frame}
-use Rattle.queue.specs.Settle.{apply_receipt, apply_send_error, drain_timed_out_sends}
+use Rattle.queue.specs.Settle.{Handed, apply_receipt, apply_send_error, drain_timed_out_sends}
 use Rattle.queue.specs.Tables.{drain_pending_sends, snapshot_pending_sends, replay_snapshots, replay_pending_outbound}
 use Rattle.queue.specs.Queries.{may_add, outbound_len, stats}
 use Rattle.queue.specs.Message.{Message, message_of}
@@ -65,7 +65,7 @@ Asked (can_add size num_messages) = Bool
 Asked waiting_count = ℕ
 Asked statistics = ProducerStats
 
-unfoldable pub ask : (k : Query) → Queue → Asked k
+abbrev pub ask : (k : Query) → Queue → Asked k
 ask send_deadline q = next_send_deadline q
 ask batch_deadline q = next_batch_deadline q
 ask (batch_elapsed now) q = batch_deadline_elapsed now q
@@ -80,19 +80,19 @@ Gives (flush publish_time) = ℕ
 Gives (take room) = Frame
 Gives (receipt id message_id) = OpSend × MessageId
 Gives (send_error id code) = OpSend × ℤ
-Gives (timeouts now room) = List OpSend
+Gives (timeouts now room) = Handed
 Gives (initial_id next) = Unit {0}
 Gives (set s) = Unit {0}
 Gives (set_name bytes) = Unit {0}
 Gives close = Unit {0}
 Gives (query k) = Asked k
-Gives (drain room) = List OpSend
-Gives (snapshot droppedRoom replayRoom) = List OpSend × List OpSend
+Gives (drain room) = Handed
+Gives (snapshot droppedRoom replayRoom) = Handed × Handed
 Gives (replay entries) = Unit {0}
 Gives resend = ℕ
 
 -- the queue after a call, and its answer: the definitions that the methods' contracts cite
-unfoldable pub step : List ℕ → (c : Call) → Queue → Outcome (Gives c)
+abbrev pub step : List ℕ → (c : Call) → Queue → Outcome (Gives c)
 step store (send a) q = queue_send (length store) a q
 step store (flush publish_time) q = flush_batch publish_time q
 step store (take room) q = next_outbound_frame store room q

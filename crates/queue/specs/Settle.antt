@@ -61,12 +61,20 @@ abbrev pub unmark_all : List OpSend → List OpSend → List OpSend
 unmark_all [] l = l
 unmark_all (op ∷ gone) l = unmark_all gone (map (unmark op.sequence_id.0) l)
 
+-- entries at the start of a lent table, and how many, as it is answered
+pub record Handed : Type 0 where
+  pub count : ℕ
+  pub entries : List OpSend
+
+abbrev pub handed : List OpSend → Handed
+handed l = record { count = length l; entries = l }
+
 -- what a table of a length is written: 9, the table shorter than what this call would write to it
-abbrev pub hand_out : ℕ → List OpSend → Queue → Queue → Outcome (List OpSend)
-hand_out room gone before after = pick (ltb room (length gone)) (refuse 9 before) (after, done gone)
+abbrev pub hand_out : ℕ → List OpSend → Queue → Queue → Outcome Handed
+hand_out room gone before after = pick (ltb room (length gone)) (refuse 9 before) (after, done (handed gone))
 
 -- `drain_timed_out_sends`: frames and batched messages stay; without a timeout none is due
-unfoldable pub drain_timed_out_sends : ℕ → ℕ → Queue → Outcome (List OpSend)
+unfoldable pub drain_timed_out_sends : ℕ → ℕ → Queue → Outcome Handed
 drain_timed_out_sends now room q =
     let n = due_count now q.settings.delays.send_timeout q.pending in
     let gone = take n q.pending in

@@ -16,12 +16,12 @@ use Rattle.queue.specs.Queue.{Queue, Outgoing, Outcome, done, refuse, empty_outg
 use Rattle.queue.specs.Settings.{changed}
 use Rattle.queue.specs.Batch.{too_many}
 use Rattle.queue.specs.Send.{within_bounds, total_chunks, record_of}
-use Rattle.queue.specs.Settle.{hand_out}
+use Rattle.queue.specs.Settle.{Handed, handed, hand_out}
 
 -- ── drain and snapshot ──
 
 -- `drain_pending_sends` hands out all entries and empties batch and frames
-unfoldable pub drain_pending_sends : ℕ → Queue → Outcome (List OpSend)
+unfoldable pub drain_pending_sends : ℕ → Queue → Outcome Handed
 drain_pending_sends room q = hand_out room q.pending q (with_out empty_outgoing (with_pending [] q))
 
 -- a batched entry has no frame of its own
@@ -49,7 +49,7 @@ failed n k =
     }
 
 -- `snapshot_pending_sends` clears `broker_ready`, hands batched entries to the dropped table and the others to the replay table
-unfoldable pub snapshot_pending_sends : ℕ → ℕ → Queue → Outcome (List OpSend × List OpSend)
+unfoldable pub snapshot_pending_sends : ℕ → ℕ → Queue → Outcome (Handed × Handed)
 snapshot_pending_sends droppedRoom replayRoom q =
     let dropped = batched_of q.pending in
     let kept = framed_of q.pending in
@@ -62,7 +62,7 @@ snapshot_pending_sends droppedRoom replayRoom q =
         pending = [];
         out = empty_outgoing;
       },
-      done (dropped, kept),
+      done (handed dropped, handed kept),
     )
 
 -- ── replays ──

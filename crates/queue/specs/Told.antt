@@ -1,5 +1,5 @@
 -- What the answers of the code say in document 01's numbers and values.
-use Rattle.std.specs.Prelude.{ℕ, ◌≡◌, Err, Ok, Result}
+use Rattle.std.specs.Prelude.{◌≡◌, Err, Ok, Result}
 use Rattle.types.specs.Refusals.{number_of, values_of}
 use Rattle.types.specs.declared.answer.SendDecision.TheVariants as send
 use Rattle.types.specs.declared.answer.SendDecision.{SendDecision}
