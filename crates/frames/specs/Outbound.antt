@@ -1,6 +1,7 @@
 -- The front frame as it goes out. These mirror the code: what a reader must believe is in crate `queue`.
 use Rattle.std.specs.Prelude.{ℕ, ◌^◌, Bool, true, List, ltb, eqb, None, Option, Some}
 use Rattle.laws.specs.Choice.{pick}
+use Rattle.types.specs.Values.{clipped}
 use Rattle.wire.specs.Uuid.{uuid_text}
 use Rattle.queue.specs.Batch.{at_least_one}
 use Rattle.types.specs.declared.frame.BatchFrame.{BatchFrame}
@@ -17,7 +18,7 @@ use Rattle.types.specs.declared.outbound.OutboundFrame.{OutboundFrame}
 
 -- the message's own name, and the producer's when that is empty
 abbrev pub name_out : Part → ProducerName → FrameName
-name_out own producer = pick (eqb own.len 0) (Producer producer) (Own own)
+name_out own producer = pick (eqb own.len 0) (Producer (clipped producer)) (Own own)
 
 abbrev pub present_if : Bool → ℕ → Option ℕ
 present_if there n = pick there (Some n) None
@@ -82,7 +83,7 @@ batch_frame_out handle r b highest size len =
         message_id = None;
       };
       metadata = record {
-        producer_name = Producer r.producer_name;
+        producer_name = Producer (clipped r.producer_name);
         sequence_id = r.sequence_id;
         publish_time = r.publish_time;
         partition_key = None;

@@ -22,7 +22,7 @@ impl FrontFrame {
     {
         let own = self.front.message.producer_name;
         if own.len == 0 {
-            FrameName::Producer(self.front.producer_name)
+            FrameName::Producer(self.front.producer_name.clipped())
         } else {
             FrameName::Own(own)
         }
@@ -113,7 +113,7 @@ impl FrontFrame {
                 message_id: None,
             },
             metadata: MessageMetadata {
-                producer_name: FrameName::Producer(front.producer_name),
+                producer_name: FrameName::Producer(front.producer_name.clipped()),
                 sequence_id: front.sequence_id,
                 publish_time: front.publish_time,
                 partition_key: None,

@@ -11,7 +11,7 @@ use Rattle.types.specs.declared.error.ProducerError.{ProducerError}
 use Rattle.types.specs.declared.error.ProducerError.TheVariants.{TooShort}
 use Rattle.queue.specs.Queue.{Queue, refused, done, empty_outgoing, with_pending, with_out}
 use Rattle.queue.specs.Ids.{elapsed, send_deadline}
-use Rattle.queue.specs.Settle.{due_count, unmark, unmark_all, hand_out, drain_timed_out_sends, table_after}
+use Rattle.queue.specs.Settle.{handed, due_count, unmark, unmark_all, hand_out, drain_timed_out_sends, table_after}
 use Rattle.queue.specs.Tables.{drain_pending_sends}
 use Rattle.upkeep.specs.Pending.{cleared_all}
 use Rattle.tables.specs.Drain.{cleared_each, gone_count}
@@ -169,7 +169,7 @@ module _ (s : ProducerState) (due : Option ℕ) (es : List OpSend) (e : es ≡ (
       let gone : List OpSend = gone_of due (view s) in
       let short : ltb (length ys) (length gone) ≡ true = ap (ltb (length ys)) (sym (plans s due es e).many) ∙ both.0 in
       subst (λ (y : ProducerError). Drains due s ys (Err y) s ys) both.1
-      (sym (drain_is due (length ys) (view s) ∙ ap (λ (b : Bool). pick b (view s, refused 9 []) (left_of due (view s), done gone)) short), refl, refl)
+      (sym (drain_is due (length ys) (view s) ∙ ap (λ (b : Bool). pick b (view s, refused 9 []) (left_of due (view s), done (handed gone))) short), refl, refl)
 
   pub drains_done : Full s → (k : ℕ) → plan_of due es (length ys) s ≡ Ok k → (zs : List OpSend) → zs ≡ table_after (take (length ys) (take k es)) ys
       → Drains due s ys (Ok k) (drained_state due es k s) zs
@@ -179,11 +179,12 @@ module _ (s : ProducerState) (due : Option ℕ) (es : List OpSend) (e : es ≡ (
       let room : ltb (length ys) (length gone) ≡ false = le-ltb (length ys) (length gone) (omega (arith, g.plan.many, g.room)) in
       let all : take (length ys) (take k es) ≡ gone = ap (take (length ys)) g.plan.gone ∙ take_all (length ys) gone (omega (arith, g.plan.many, g.room)) in
       let zg : zs ≡ table_after gone ys = z ∙ ap (λ (l : List OpSend). table_after l ys) all in
+      let many : k ≡ length gone = g.plan.many in
       let back : take k zs ≡ gone = ap (take k) zg ∙ take_at gone (drop (length gone) ys) k (sym g.plan.many) in
       let c : k ≡ count_of due (view s) =
       g.plan.many ∙ ap length (sym (gone_is due (view s))) ∙ length-take-le (count_of due (view s)) (view s).pending (count_most due (view s)) in (
-        (λ j. (left_view s f due es k g.plan.gone c j, done (back j)))
-            ∙ sym (drain_is due (length ys) (view s) ∙ ap (λ (b : Bool). pick b (view s, refused 9 []) (left_of due (view s), done gone)) room),
+        (λ j. (left_view s f due es k g.plan.gone c j, done (record { count = many j; entries = back j })))
+            ∙ sym (drain_is due (length ys) (view s) ∙ ap (λ (b : Bool). pick b (view s, refused 9 []) (left_of due (view s), done (handed gone))) room),
         zg ∙ ap (λ (l : List OpSend). table_after l ys) (sym back),
         tt,
       )

@@ -9,6 +9,7 @@ pub mod Gap
 pub mod Listed
 pub mod Locate
 pub mod Marks
+pub mod Meets
 pub mod Plans
 pub mod Queries
 pub mod Receipts

@@ -11,7 +11,7 @@ use Rattle.types.specs.declared.error.ProducerError.TheVariants.{TooShort}
 use Rattle.types.specs.declared.settings.Setting.TheVariants.{BrokerReady}
 use Rattle.queue.specs.Queue.{Queue, Outcome, refused, done, empty_outgoing}
 use Rattle.queue.specs.Settings.{changed}
-use Rattle.queue.specs.Settle.{table_after}
+use Rattle.queue.specs.Settle.{Handed, handed, table_after}
 use Rattle.queue.specs.Tables.{batched_of, framed_of, failed, snapshot_pending_sends}
 use Rattle.queue.specs.Told.{Kept}
 use Rattle.tables.specs.Scalars.{core_snapshot}
@@ -74,26 +74,26 @@ left_view s n e =
 -- what the call owes, of the answer, the state and the two tables after it
 abbrev pub Snaps : ProducerState → List OpSend → List OpSend → Result Snapshot ProducerError → ProducerState → List OpSend → List OpSend → Type 0
 Snaps s ds rs a t zs us =
-    ◌≡◌ {A = Outcome (List OpSend × List OpSend)} (view t, told_snapshot a zs us) (snapshot_pending_sends (length ds) (length rs) (view s))
+    ◌≡◌ {A = Outcome (Handed × Handed)} (view t, told_snapshot a zs us) (snapshot_pending_sends (length ds) (length rs) (view s))
     × (zs ≡ dropped_left (told_snapshot a zs us) ds)
     × (us ≡ replay_left (told_snapshot a zs us) rs)
     × Kept (told_snapshot a zs us) s t
 
 snapshot_is : (ds rs : ℕ) (q : Queue) (b : Bool)
     → (leb (length (batched_of q.pending)) ds && leb (length (framed_of q.pending)) rs) ≡ b
-    → snapshot_pending_sends ds rs q ≡ pick b (left_of q, done (batched_of q.pending, framed_of q.pending)) (q, refused 9 [])
+    → snapshot_pending_sends ds rs q ≡ pick b (left_of q, done (handed (batched_of q.pending), handed (framed_of q.pending))) (q, refused 9 [])
 unfolding snapshot_pending_sends
 snapshot_is ds rs q b e =
     let d = length (batched_of q.pending) in
     let r = length (framed_of q.pending) in
-    ap (λ (t : Bool). pick t (q, refused 9 []) (left_of q, done (batched_of q.pending, framed_of q.pending)))
+    ap (λ (t : Bool). pick t (q, refused 9 []) (left_of q, done (handed (batched_of q.pending), handed (framed_of q.pending))))
     ((λ j. short_is d ds j || short_is r rs j) ∙ either (leb d ds) (leb r rs) ∙ ap not e)
     ∙ turned b
   where
     turned : (t : Bool)
-        → ◌≡◌ {A = Outcome (List OpSend × List OpSend)}
-        (pick (not t) (q, refused 9 []) (left_of q, done (batched_of q.pending, framed_of q.pending)))
-        (pick t (left_of q, done (batched_of q.pending, framed_of q.pending)) (q, refused 9 []))
+        → ◌≡◌ {A = Outcome (Handed × Handed)}
+        (pick (not t) (q, refused 9 []) (left_of q, done (handed (batched_of q.pending), handed (framed_of q.pending))))
+        (pick t (left_of q, done (handed (batched_of q.pending), handed (framed_of q.pending))) (q, refused 9 []))
     turned true = refl
     turned false = refl
 
@@ -157,7 +157,7 @@ module _ (s : ProducerState) (ds rs : List OpSend) where
       let bd = back d ds zs zd in
       let bf = back f rs us uf in
       subst (λ (x : Snapshot). Snaps s ds rs (Ok x) (store_core (core_snapshot x.dropped s.core) s) zs us) g.is (
-        (λ j. (left_view s (length d) refl j, done (bd j, bf j))) ∙ sym (snapshot_is (length ds) (length rs) (view s) true g.fits),
+        (λ j. (left_view s (length d) refl j, done (record { count = length d; entries = bd j }, record { count = length f; entries = bf j }))) ∙ sym (snapshot_is (length ds) (length rs) (view s) true g.fits),
         zd ∙ ap (λ (x : List OpSend). table_after x ds) (sym bd),
         uf ∙ ap (λ (x : List OpSend). table_after x rs) (sym bf),
         tt,

@@ -19,7 +19,7 @@ use Rattle.types.specs.declared.message.OutgoingMessage.{OutgoingMessage}
 use Rattle.types.specs.declared.message.Part.{Part}
 use Rattle.types.specs.declared.outbound.FrameName.TheVariants.{Own, Producer}
 use Rattle.types.specs.declared.outbound.OutboundFrame.{OutboundFrame}
-use Rattle.types.specs.Values.{part_of, name_of, part_in, maybe_in}
+use Rattle.types.specs.Values.{part_of, clipped, name_of, part_in, maybe_in}
 use Rattle.wire.specs.Batch.{batch_payload}
 use Rattle.wire.specs.Buffer.{Room, Puts}
 use Rattle.wire.specs.Length.{stopped, batch_length}
@@ -41,7 +41,7 @@ use Rattle.plans.specs.declared.take.TakePlan.{TakePlan}
 use Rattle.frames.proofs.Batches.{all_in_lem}
 use Rattle.frames.proofs.Pieces.{some_picked, is_there, there_if, piece_of}
 use Rattle.producer.specs.View.{view}
-use Rattle.producer.specs.Take.{name_told, frame_told, told_frame}
+use Rattle.producer.specs.Take.{name_told, frame_told, told_frame, OwnParts}
 use Rattle.producer.specs.declared.state.ProducerState.{ProducerState}
 use Rattle.producer.proofs.Full.{Full}
 use Rattle.types.specs.declared.error.ProducerError.{ProducerError}
@@ -102,9 +102,12 @@ err_planned c r count (Ok x) f e = differ (cc)
 err_planned c r count (Err x) f e = let same : x ≡ f = cc in ap Err same
 
 -- what a frame's name says
+clip : (n : ProducerName) → name_of (clipped n) ≡ name_of n
+clip n = let e : min (min n.len 64) 64 ≡ min n.len 64 = omega arith in ap (λ (k : ℕ). take k n.bytes) e
+
 name_if : (store : List ℕ) (b : Bool) (own : Part) (producer : ProducerName)
-    → name_told store (pick b (Producer producer) (Own own)) ≡ pick b (name_of producer) (part_of store own)
-name_if store true own producer = refl
+    → name_told store (pick b (Producer (clipped producer)) (Own own)) ≡ pick b (name_of producer) (part_of store own)
+name_if store true own producer = clip producer
 name_if store false own producer = refl
 
 num_if : (b : Bool) (n : ℕ) → (present_if b n) ≡ pick b (Some n) None
@@ -303,7 +306,7 @@ module _ (s : ProducerState) (f : Full s) (d : FrameRecord) (at : ℕ) (q : at �
 
     frame_is : (after : List ℕ) (len : ℕ) (k : FrameKind) → take len after ≡ (frame_for k).payload → frame_told store after (frame_out s.core.handle r k len) ≡ frame_for k
     frame_is after len Single e = simp (name_if, num_if, e)
-    frame_is after len (Batch b) e = simp (num_if, e)
+    frame_is after len (Batch b) e = simp (clip, num_if, e)
     frame_is after len (Chunked c) e = simp (name_if, e)
 
   -- ── the answer ──
@@ -311,7 +314,8 @@ module _ (s : ProducerState) (f : Full s) (d : FrameRecord) (at : ℕ) (q : at �
   abbrev pub Takes : List ℕ → List ℕ → List ℕ → Result OutboundFrame ProducerError → ProducerState → Type 0
   Takes store before after a t =
       (◌≡◌ {A = Queue × Answer Frame} (view t, told_frame store after a) (next_outbound_frame store (length before) (view s)))
-      × ((after ≡ written (told_frame store after a) before) × Kept (told_frame store after a) s t)
+      × ((after ≡ written (told_frame store after a) before)
+      × (OwnParts store (view s) (view s).out.frames a × Kept (told_frame store after a) s t))
 
   -- the state with the plan's stores
   abbrev pub stored_as : TakePlan → ProducerState
@@ -359,6 +363,16 @@ module _ (s : ProducerState) (f : Full s) (d : FrameRecord) (at : ℕ) (q : at �
             → next_outbound_frame store (length before) (view s) ≡ (with_out (taken front_of behind (view s).out) (view s), done (frame_for store front_of kind))
         goes t = opened ∙ pick_true _ _ within ∙ pick_false _ _ (test ∙ t)
 
+    -- the struct that is answered
+    own_is : 0 < s.core.rings.outbound.len → (len : ℕ) → length (frame_for store front_of kind).payload ≡ len
+        → frame_in (length store) front_of kind held_list ≡ true
+        → OwnParts store (view s) (view s).out.frames (Ok (frame_out s.core.handle front_of kind len))
+    unfolding view
+    own_is p len size within =
+        subst (λ (rs : List FrameRecord). OwnParts store (view s) rs (Ok (frame_out s.core.handle front_of kind len)))
+        (sym (some_waiting p))
+        (ap (frame_out s.core.handle front_of kind) (sym size), within)
+
     -- what stands in the way of a frame, or that nothing does
     answer_none : s.core.rings.outbound.len ≡ 0 → answer ≡ Err NoFrame
     answer_none z = pick_true _ _ (eq-eqb s.core.rings.outbound.len 0 z)
@@ -396,12 +410,12 @@ module _ (s : ProducerState) (f : Full s) (d : FrameRecord) (at : ℕ) (q : at �
 
         fit : 0 < s.core.rings.outbound.len → (x : Span) → span ≡ Some x → (l : Bool) → ltb (length before) x.len ≡ l
             → Takes store before before (Err err) s
-        fit p x e true h = on TooShort (answer_some p (Some x) e ∙ pick_true _ _ h) (sym (too_short p x e h), (refl, refl))
+        fit p x e true h = on TooShort (answer_some p (Some x) e ∙ pick_true _ _ h) (sym (too_short p x e h), (refl, (tt, refl)))
         fit p x e false h = not_both err x t (answer_some p (Some x) e ∙ pick_false _ _ h)
 
         by : Dec (0 < s.core.rings.outbound.len) → (o : Option Span) → span ≡ o → Takes store before before (Err err) s
-        by (no p) o e = let z : s.core.rings.outbound.len ≡ 0 = omega arith in on NoFrame (answer_none z) (sym (nothing z), (refl, refl))
-        by (yes p) None e = on PartOutside (answer_some p None e) (sym (outside p e), (refl, refl))
+        by (no p) o e = let z : s.core.rings.outbound.len ≡ 0 = omega arith in on NoFrame (answer_none z) (sym (nothing z), (refl, (tt, refl)))
+        by (yes p) None e = on PartOutside (answer_some p None e) (sym (outside p e), (refl, (tt, refl)))
         by (yes p) (Some x) e = fit p x e (ltb (length before) x.len) refl
 
     module _ (g : Span) (t : answer ≡ Ok g) where
@@ -430,9 +444,10 @@ module _ (s : ProducerState) (f : Full s) (d : FrameRecord) (at : ℕ) (q : at �
           let left : after ≡ bytes ++ drop (length bytes) before =
           (subst (λ (l : List ℕ). Puts l before after x) w.bytes v).left in
           let start : take g.len after ≡ bytes = ap (take g.len) left ∙ take_at bytes (drop (length bytes) before) g.len size in
-          let frame = frame_is store front_of after g.len kind start in (
+          let frame = frame_is store front_of after g.len kind start in
+          let own = own_is a.some g.len size (within a.some g a.inside) in (
             (λ j. (after_is some_message a.some front_of j, done (frame j))) ∙ sym (goes a.some g a.inside a.fits),
-            (left ∙ ap (λ (h : Frame). h.payload ++ drop (length h.payload) before) (sym frame), tt),
+            (left ∙ ap (λ (h : Frame). h.payload ++ drop (length h.payload) before) (sym frame), (own, tt)),
           )
 
     -- ── from what the code has worked out ──

@@ -1,4 +1,5 @@
 pub mod Apply
+pub mod Meets
 pub mod Replay
 pub mod Runs
 pub mod Send

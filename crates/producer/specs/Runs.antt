@@ -1,18 +1,15 @@
 -- Runs of the code: states and answers, each call meeting its method's contract; and the order rule for them.
 use Rattle.std.specs.Prelude.{◌≡◌, ℕ, List, [], ◌∷◌, ◌++◌, Some}
 use Rattle.types.specs.declared.types.ProducerHandle.{ProducerHandle}
-use Rattle.queue.specs.Queue.{Answer, Outcome, new_queue}
+use Rattle.queue.specs.Queue.{Answer, new_queue}
 use Rattle.queue.specs.Frame.{Frame}
 use Rattle.queue.specs.Message.{Message}
-use Rattle.queue.specs.Run.{Call, Gives, step, frame_of, accepted_by, Waiting}
+use Rattle.queue.specs.Run.{Call, Gives, frame_of, accepted_by, Waiting}
 use Rattle.queue.specs.Read.{read}
 use Rattle.queue.specs.Order.{Premises}
+use Rattle.producer.specs.Meets.{Meets}
 use Rattle.producer.specs.View.{view}
 use Rattle.producer.specs.declared.state.ProducerState.{ProducerState}
-
--- what the contract of a call's method says of the state before, the state after and the answer
-abbrev pub Meets : List ℕ → (c : Call) → ProducerState → ProducerState → Answer (Gives c) → Type 0
-Meets store c before after answer = ◌≡◌ {A = Outcome (Gives c)} (view after, answer) (step store c (view before))
 
 -- calls one after the other, each with the state that the last one returned: from a state to a state, with the frames that the takes
 -- answered and the messages of the sends that were not refused

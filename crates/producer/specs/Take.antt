@@ -1,14 +1,16 @@
 -- What the answer of a take says: its parts are the store's bytes, and its payload is the start of the buffer after the call.
-use Rattle.std.specs.Prelude.{ℕ, List, take, Err, Ok, Result}
+use Rattle.std.specs.Prelude.{◌≡◌, ℕ, true, List, [], ◌∷◌, length, take, Err, Ok, Result}
 use Rattle.types.specs.Values.{part_of, bytes_of, name_of}
 use Rattle.types.specs.declared.outbound.CommandSend.{CommandSend}
 use Rattle.types.specs.declared.outbound.MessageMetadata.{MessageMetadata}
 use Rattle.types.specs.declared.outbound.FrameName.{FrameName}
 use Rattle.types.specs.declared.outbound.FrameName.TheVariants.{Own, Producer}
 use Rattle.types.specs.declared.outbound.OutboundFrame.{OutboundFrame}
-use Rattle.queue.specs.Queue.{Answer, done}
+use Rattle.types.specs.declared.frame.FrameRecord.{FrameRecord}
+use Rattle.frames.specs.Outbound.{frame_out}
+use Rattle.queue.specs.Queue.{Queue, Answer, done}
 use Rattle.types.specs.declared.error.ProducerError.{ProducerError}
-use Rattle.queue.specs.Frame.{Command, Metadata, Frame}
+use Rattle.queue.specs.Frame.{Command, Metadata, Frame, first_frame, frame_in}
 use Rattle.queue.specs.Told.{told_error}
 
 -- the own name of a message, or its producer's
@@ -59,3 +61,12 @@ frame_told store buffer f =
 abbrev pub told_frame : List ℕ → List ℕ → Result OutboundFrame ProducerError → Answer Frame
 told_frame store buffer (Ok f) = done (frame_told store buffer f)
 told_frame store buffer (Err e) = told_error e
+
+-- the very struct that is answered: of the front record, with its own parts, which lie in the store (2), its name with the length that it
+-- has, and the length of its payload
+abbrev pub OwnParts : List ℕ → Queue → List FrameRecord → Result OutboundFrame ProducerError → Type 0
+OwnParts store q rs (Err e) = Unit {0}
+OwnParts store q [] (Ok f) = ⊥
+OwnParts store q (r ∷ rs) (Ok f) =
+    (f ≡ frame_out q.handle r r.kind (length (first_frame store q.handle r r.kind q.out.held).payload))
+    × (frame_in (length store) r r.kind q.out.held ≡ true)

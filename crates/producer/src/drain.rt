@@ -1,10 +1,10 @@
 // Drains and the snapshot: pending entries handed out in tables that the caller lends (document 01, 'ids and clocks' and
 // 'receipts, errors, snapshot, replay').
-ghost use Rattle.std.specs.Prelude.{◌≡◌, length};
-ghost use Rattle.queue.specs.Settle.{drain_timed_out_sends};
-ghost use Rattle.queue.specs.Tables.{drain_pending_sends, snapshot_pending_sends};
+ghost use Rattle.std.specs.Prelude.{◌≡◌, [], length};
+ghost use Rattle.queue.specs.Run.{drain, timeouts, snapshot};
 ghost use Rattle.queue.specs.Told.{Kept};
 ghost use Rattle.tables.specs.Picked.{Lists, kind_of};
+ghost use Rattle.producer.specs.Meets.{Meets};
 ghost use Rattle.producer.specs.Tables.{Drains, table_left, told_table, told_snapshot, dropped_left, replay_left};
 ghost use Rattle.producer.specs.View.{view};
 
@@ -40,8 +40,8 @@ impl ProducerState {
 
     // All entries. Batch and frames are emptied with them.
     pub fn drain_pending_sends(mut self, table: &mut [OpSend]) -> Answered<usize>
-        ensures table_after { (view result.state, told_table result.answer table.new) ≡ drain_pending_sends (length table.old) (view self) }
-        ensures table_after_2 { table.new ≡ table_left (told_table result.answer table.new) table.old }
+        ensures meets { Meets [] (drain (length table.old)) self result.state (told_table result.answer table.new) }
+        ensures left { table.new ≡ table_left (told_table result.answer table.new) table.old }
         ensures kept { Kept (told_table result.answer table.new) self result.state }
     {
         Answered {
@@ -52,8 +52,8 @@ impl ProducerState {
 
     // The entries from the front that are due. Frames and batched messages stay.
     pub fn drain_timed_out_sends(mut self, time: u64, table: &mut [OpSend]) -> Answered<usize>
-        ensures table_after { (view result.state, told_table result.answer table.new) ≡ drain_timed_out_sends time (length table.old) (view self) }
-        ensures table_after_2 { table.new ≡ table_left (told_table result.answer table.new) table.old }
+        ensures meets { Meets [] (timeouts time (length table.old)) self result.state (told_table result.answer table.new) }
+        ensures left { table.new ≡ table_left (told_table result.answer table.new) table.old }
         ensures kept { Kept (told_table result.answer table.new) self result.state }
     {
         Answered {
@@ -75,9 +75,9 @@ impl ProducerState {
         dropped: &mut [OpSend],
         replay: &mut [OpSend],
     ) -> Result<Snapshot, ProducerError>
-        ensures replay_after { (view self.new, told_snapshot result dropped.new replay.new) ≡ snapshot_pending_sends (length dropped.old) (length replay.old) (view self.old) }
-        ensures dropped_after { dropped.new ≡ dropped_left (told_snapshot result dropped.new replay.new) dropped.old }
-        ensures replay_after_2 { replay.new ≡ replay_left (told_snapshot result dropped.new replay.new) replay.old }
+        ensures meets { Meets [] (snapshot (length dropped.old) (length replay.old)) self.old self.new (told_snapshot result dropped.new replay.new) }
+        ensures dropped_left { dropped.new ≡ dropped_left (told_snapshot result dropped.new replay.new) dropped.old }
+        ensures replay_left { replay.new ≡ replay_left (told_snapshot result dropped.new replay.new) replay.old }
         ensures kept { Kept (told_snapshot result dropped.new replay.new) self.old self.new }
     {
         let batched = self.of_kind(true);
@@ -96,9 +96,9 @@ impl ProducerState {
         dropped: &mut [OpSend],
         replay: &mut [OpSend],
     ) -> Answered<Snapshot>
-        ensures replay_after { (view result.state, told_snapshot result.answer dropped.new replay.new) ≡ snapshot_pending_sends (length dropped.old) (length replay.old) (view self) }
-        ensures dropped_after { dropped.new ≡ dropped_left (told_snapshot result.answer dropped.new replay.new) dropped.old }
-        ensures replay_after_2 { replay.new ≡ replay_left (told_snapshot result.answer dropped.new replay.new) replay.old }
+        ensures meets { Meets [] (snapshot (length dropped.old) (length replay.old)) self result.state (told_snapshot result.answer dropped.new replay.new) }
+        ensures dropped_left { dropped.new ≡ dropped_left (told_snapshot result.answer dropped.new replay.new) dropped.old }
+        ensures replay_left { replay.new ≡ replay_left (told_snapshot result.answer dropped.new replay.new) replay.old }
         ensures kept { Kept (told_snapshot result.answer dropped.new replay.new) self result.state }
     {
         Answered {

@@ -1,9 +1,11 @@
 // The replays (document 01, 'receipts, errors, snapshot, replay').
-ghost use Rattle.std.specs.Prelude.{◌≡◌, ◌<◌, ◌^◌, map};
+ghost use Rattle.std.specs.Prelude.{◌≡◌, ◌<◌, ◌^◌, [], map};
 ghost use Rattle.laws.specs.Lists.{front_all};
 ghost use Rattle.queue.specs.Queue.{with_out, with_pending};
-ghost use Rattle.queue.specs.Tables.{fronted, mark, replay_pending_outbound, replay_snapshots};
+ghost use Rattle.queue.specs.Run.{replay, resend};
+ghost use Rattle.queue.specs.Tables.{fronted, mark};
 ghost use Rattle.queue.specs.Told.{Kept, told};
+ghost use Rattle.producer.specs.Meets.{Meets};
 ghost use Rattle.producer.specs.Replay.{frame_id};
 ghost use Rattle.tables.specs.Picked.{Lists};
 ghost use Rattle.producer.specs.View.{view};
@@ -65,7 +67,7 @@ impl ProducerState {
     }
 
     fn resend(&mut self) -> Result<usize, ProducerError>
-        ensures answer_value { (view self.new, told result) ≡ replay_pending_outbound (view self.old) }
+        ensures meets { Meets [] resend self.old self.new (told result) }
         ensures kept { Kept (told result) self.old self.new }
     {
         let pending = self.entries();
@@ -83,7 +85,7 @@ impl ProducerState {
 
     // Fronts the frames of the entries whose id no waiting frame bears, and answers how many.
     pub fn replay_pending_outbound(mut self) -> Answered<usize>
-        ensures answer_value { (view result.state, told result.answer) ≡ replay_pending_outbound (view self) }
+        ensures meets { Meets [] resend self result.state (told result.answer) }
         ensures kept { Kept (told result.answer) self result.state }
     {
         Answered {
@@ -93,7 +95,7 @@ impl ProducerState {
     }
 
     fn replay(&mut self, table: &[OpSend]) -> Result<(), ProducerError>
-        ensures answer_value { (view self.new, told result) ≡ replay_snapshots table.now (view self.old) }
+        ensures meets { Meets [] (replay table.now) self.old self.new (told result) }
         ensures kept { Kept (told result) self.old self.new }
     {
         self.core
@@ -106,7 +108,7 @@ impl ProducerState {
 
     // Puts the entries of a table and their frames at the front.
     pub fn replay_snapshots(mut self, table: &[OpSend]) -> Answered<()>
-        ensures answer_value { (view result.state, told result.answer) ≡ replay_snapshots table.now (view self) }
+        ensures meets { Meets [] (replay table.now) self result.state (told result.answer) }
         ensures kept { Kept (told result.answer) self result.state }
     {
         Answered {

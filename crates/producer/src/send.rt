@@ -1,8 +1,8 @@
 // Sends and the flush.
-ghost use Rattle.std.specs.Prelude.{◌≡◌, length};
-ghost use Rattle.queue.specs.Batch.{flush_batch};
-ghost use Rattle.queue.specs.Send.{queue_send};
+ghost use Rattle.std.specs.Prelude.{[]};
+ghost use Rattle.queue.specs.Run.{send, flush};
 ghost use Rattle.queue.specs.Told.{told_send, told, Kept};
+ghost use Rattle.producer.specs.Meets.{Meets};
 ghost use Rattle.producer.specs.View.{view};
 ghost use Rattle.producer.specs.Send.{sending, KeptSend};
 
@@ -25,8 +25,8 @@ impl ProducerState {
         publish_time: u64,
         time: u64,
     ) -> Answered<SendDecision>
-        ensures answer_value { (view result.state, told_send result.answer) ≡ queue_send (length store.now) (sending message reservation.bytes uuid publish_time time) (view self) }
-        ensures kept_send { KeptSend message (view self) (told_send result.answer) self result.state }
+        ensures meets { Meets store.now (send (sending message reservation.bytes uuid publish_time time)) self result.state (told_send result.answer) }
+        ensures kept { KeptSend message (view self) (told_send result.answer) self result.state }
     {
         let a = Sending {
             message,
@@ -52,8 +52,8 @@ impl ProducerState {
         publish_time: u64,
         time: u64,
     ) -> Answered<SendDecision>
-        ensures answer_value { (view result.state, told_send result.answer) ≡ queue_send (length store.now) (sending message 0 uuid publish_time time) (view self) }
-        ensures kept_send { KeptSend message (view self) (told_send result.answer) self result.state }
+        ensures meets { Meets store.now (send (sending message 0 uuid publish_time time)) self result.state (told_send result.answer) }
+        ensures kept { KeptSend message (view self) (told_send result.answer) self result.state }
     {
         let none = MemoryReservation { bytes: 0 };
         self.queue_send_reserved(store, message, none, uuid, publish_time, time)
@@ -61,7 +61,7 @@ impl ProducerState {
 
     // The count of frames made, 0 or 1.
     pub fn flush(&mut self, publish_time: u64) -> Result<usize, ProducerError>
-        ensures answer_value { (view self.new, told result) ≡ flush_batch publish_time (view self.old) }
+        ensures meets { Meets [] (flush publish_time) self.old self.new (told result) }
         ensures kept { Kept (told result) self.old self.new }
     {
         let d = self.core.plan_flush(publish_time);
@@ -72,7 +72,7 @@ impl ProducerState {
 
     // The same for a state by value. As in the Rust the time of the call is not used.
     pub fn flush_batch(mut self, publish_time: u64, _now: u64) -> Answered<usize>
-        ensures answer_value { (view result.state, told result.answer) ≡ flush_batch publish_time (view self) }
+        ensures meets { Meets [] (flush publish_time) self result.state (told result.answer) }
         ensures kept { Kept (told result.answer) self result.state }
     {
         Answered {

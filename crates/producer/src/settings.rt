@@ -1,10 +1,10 @@
 // Settings, closing and the first id.
-ghost use Rattle.std.specs.Prelude.{◌≡◌};
-ghost use Rattle.queue.specs.Settings.{set, set_name, close};
-ghost use Rattle.queue.specs.Ids.{set_initial_sequence_id};
+ghost use Rattle.std.specs.Prelude.{◌≡◌, []};
+ghost use Rattle.queue.specs.Queue.{done};
+ghost use Rattle.queue.specs.Run.{set, set_name, close, initial_id};
 ghost use Rattle.queue.specs.Told.{told, Kept};
 ghost use Rattle.producer.specs.Settings.{changed_by};
-ghost use Rattle.producer.specs.View.{view};
+ghost use Rattle.producer.specs.Meets.{Meets};
 
 use crate::answer::Answered;
 use crate::state::ProducerState;
@@ -22,7 +22,7 @@ impl ProducerState {
     }
 
     pub fn set(mut self, s: Setting) -> Answered<()>
-        ensures answer_value { (view result.state, told result.answer) ≡ set s (view self) }
+        ensures meets { Meets [] (set s) self result.state (told result.answer) }
         ensures kept { Kept (told result.answer) self result.state }
     {
         let plan = self.core.set(s);
@@ -33,7 +33,7 @@ impl ProducerState {
     }
 
     pub fn set_name(mut self, name: &[u8]) -> Answered<()>
-        ensures answer_value { (view result.state, told result.answer) ≡ set_name name.now (view self) }
+        ensures meets { Meets [] (set_name name.now) self result.state (told result.answer) }
         ensures kept { Kept (told result.answer) self result.state }
     {
         let plan = self.core.set_name(name);
@@ -45,14 +45,14 @@ impl ProducerState {
 
     // For good: no call opens it again.
     pub fn close(mut self) -> ProducerState
-        ensures { view result ≡ close (view self) }
+        ensures { Meets [] close self result (done tt) }
     {
         self.core = self.core.close();
         self
     }
 
     pub fn set_initial_sequence_id(mut self, next: u64) -> ProducerState
-        ensures { view result ≡ set_initial_sequence_id next (view self) }
+        ensures { Meets [] (initial_id next) self result (done tt) }
     {
         self.core = self.core.set_initial_sequence_id(next);
         self

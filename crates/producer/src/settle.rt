@@ -1,10 +1,12 @@
 // Receipts and errors (document 01, 'receipts, errors, snapshot, replay').
-ghost use Rattle.std.specs.Prelude.{◌≡◌, ◌<◌, min, map, length};
+ghost use Rattle.std.specs.Prelude.{◌≡◌, ◌<◌, [], min, map, length};
 ghost use Rattle.upkeep.specs.Pending.{searched, located};
 ghost use Rattle.laws.specs.Lists.{without};
 ghost use Rattle.queue.specs.Queue.{with_pending};
-ghost use Rattle.queue.specs.Settle.{apply_receipt, apply_send_error};
+ghost use Rattle.queue.specs.Run as run;
+ghost use Rattle.queue.specs.Run.{send_error};
 ghost use Rattle.queue.specs.Told.{told, Kept};
+ghost use Rattle.producer.specs.Meets.{Meets};
 ghost use Rattle.producer.specs.Settle.{GapClosed, Settles, key_of, unmarked};
 ghost use Rattle.producer.specs.View.{view};
 
@@ -78,7 +80,7 @@ impl ProducerState {
     }
 
     fn receive(&mut self, receipt: CommandSendReceipt) -> Result<(OpSend, MessageId), ProducerError>
-        ensures result_value { (view self.new, told result) ≡ apply_receipt receipt.sequence_id.0 receipt.message_id (view self.old) }
+        ensures meets { Meets [] (run.receipt receipt.sequence_id.0 receipt.message_id) self.old self.new (told result) }
         ensures kept { Kept (told result) self.old self.new }
     {
         let id = receipt.sequence_id.0;
@@ -88,7 +90,7 @@ impl ProducerState {
     }
 
     fn fail(&mut self, err: CommandSendError) -> Result<(OpSend, i32), ProducerError>
-        ensures result_value { (view self.new, told result) ≡ apply_send_error err.sequence_id.0 err.error (view self.old) }
+        ensures meets { Meets [] (send_error err.sequence_id.0 err.error) self.old self.new (told result) }
         ensures kept { Kept (told result) self.old self.new }
     {
         let op = self.settle(err.sequence_id.0)?;
@@ -97,7 +99,7 @@ impl ProducerState {
 
     // The entry that left, and the id that the message has now.
     pub fn apply_receipt(mut self, receipt: CommandSendReceipt) -> Answered<(OpSend, MessageId)>
-        ensures result_value { (view result.state, told result.answer) ≡ apply_receipt receipt.sequence_id.0 receipt.message_id (view self) }
+        ensures meets { Meets [] (run.receipt receipt.sequence_id.0 receipt.message_id) self result.state (told result.answer) }
         ensures kept { Kept (told result.answer) self result.state }
     {
         Answered {
@@ -108,7 +110,7 @@ impl ProducerState {
 
     // The entry that left, and the error's code.
     pub fn apply_send_error(mut self, err: CommandSendError) -> Answered<(OpSend, i32)>
-        ensures result_value { (view result.state, told result.answer) ≡ apply_send_error err.sequence_id.0 err.error (view self) }
+        ensures meets { Meets [] (send_error err.sequence_id.0 err.error) self result.state (told result.answer) }
         ensures kept { Kept (told result.answer) self result.state }
     {
         Answered {

@@ -1,8 +1,10 @@
 // Taking the front frame (document 01, 'sends').
 ghost use Rattle.std.specs.Prelude.{◌≡◌, length};
-ghost use Rattle.queue.specs.Take.{next_outbound_frame, written};
+ghost use Rattle.queue.specs.Run.{take};
+ghost use Rattle.queue.specs.Take.{written};
 ghost use Rattle.queue.specs.Told.{Kept};
-ghost use Rattle.producer.specs.Take.{told_frame};
+ghost use Rattle.producer.specs.Meets.{Meets};
+ghost use Rattle.producer.specs.Take.{told_frame, OwnParts};
 ghost use Rattle.producer.specs.View.{view};
 
 use crate::answer::Answered;
@@ -21,8 +23,9 @@ impl ProducerState {
         store: &[u8],
         buffer: &mut [u8],
     ) -> Result<OutboundFrame, ProducerError>
-        ensures result_after { (view self.new, told_frame store.now buffer.new result) ≡ next_outbound_frame store.now (length buffer.old) (view self.old) }
+        ensures meets { Meets store.now (take (length buffer.old)) self.old self.new (told_frame store.now buffer.new result) }
         ensures buffer_after { buffer.new ≡ written (told_frame store.now buffer.new result) buffer.old }
+        ensures own { OwnParts store.now (view self.old) (view self.old).out.frames result }
         ensures kept { Kept (told_frame store.now buffer.new result) self.old self.new }
     {
         let rings = self.core.rings;
@@ -46,8 +49,9 @@ impl ProducerState {
 
     // The same for a state by value.
     pub fn next_outbound_frame(mut self, store: &[u8], buffer: &mut [u8]) -> Answered<OutboundFrame>
-        ensures result_after { (view result.state, told_frame store.now buffer.new result.answer) ≡ next_outbound_frame store.now (length buffer.old) (view self) }
+        ensures meets { Meets store.now (take (length buffer.old)) self result.state (told_frame store.now buffer.new result.answer) }
         ensures buffer_after { buffer.new ≡ written (told_frame store.now buffer.new result.answer) buffer.old }
+        ensures own { OwnParts store.now (view self) (view self).out.frames result.answer }
         ensures kept { Kept (told_frame store.now buffer.new result.answer) self result.state }
     {
         Answered {

@@ -1,5 +1,5 @@
 -- What the values stand for: a part is the store's bytes, and what may be absent is an option, so that absent differs from empty and from false.
-use Rattle.std.specs.Prelude.{ℕ, ◌+◌, Bool, true, List, take, drop, leb, None, Option, Some}
+use Rattle.std.specs.Prelude.{ℕ, ◌+◌, min, Bool, true, List, take, drop, leb, None, Option, Some}
 use Rattle.types.specs.declared.message.Part.{Part}
 use Rattle.types.specs.declared.frame.ProducerName.{ProducerName}
 
@@ -11,9 +11,12 @@ abbrev pub bytes_of : List ℕ → Option Part → Option (List ℕ)
 bytes_of store None = None
 bytes_of store (Some p) = Some (part_of store p)
 
--- a producer's name
+-- a producer's name, held as up to 64 bytes
+abbrev pub clipped : ProducerName → ProducerName
+clipped n = record n { len = min n.len 64 }
+
 abbrev pub name_of : ProducerName → List ℕ
-name_of n = take n.len n.bytes
+name_of n = take (clipped n).len n.bytes
 
 -- a part lies in a store of n bytes; one of length 0 has an end too, and an absent one is not tested
 abbrev pub part_in : ℕ → Part → Bool

@@ -1,6 +1,7 @@
 // Frames that wait to be taken.
 ghost use Rattle.std.specs.Prelude.{◌≡◌};
 ghost use Rattle.types.specs.Empty.{empty_name};
+ghost use Rattle.types.specs.Values.{clipped};
 
 use crate::message::OutgoingMessage;
 use crate::txn::TxnId;
@@ -20,6 +21,16 @@ impl ProducerName {
         ProducerName {
             bytes: [0; 64],
             len: 0,
+        }
+    }
+
+    // The same name, with a length of 64 at most.
+    pub fn clipped(self) -> ProducerName
+        ensures { result ≡ clipped self }
+    {
+        ProducerName {
+            len: self.len.min(64),
+            ..self
         }
     }
 }
@@ -51,7 +62,7 @@ pub enum FrameKind {
 }
 
 // A waiting frame, or the waiting chunks of one message, with what its command and metadata need. Of a batch the message
-// means nothing.
+// is blank, and nothing of it is answered.
 #[derive(Clone, Copy, PartialEq, Eq)]
 pub struct FrameRecord {
     pub sequence_id: SequenceId,

@@ -15,7 +15,7 @@ returns c =
     let id = c.args.err.sequence_id.0 in
     let code = c.args.err.error in
     record {
-      result_value =
+      meets =
           subst (λ (z : ℤ). ◌≡◌ {A = Outcome (OpSend × ℤ)} (view c.settle.new.self, done (c.in_ok-op.op, z)) (apply_send_error id code (view s)))
           (sym (to_z-of_z w32 code (search rules)))
           (failed id s c.settle.new.self code c.in_ok-op.op c.in_ok-op.ensures);
@@ -26,4 +26,4 @@ pub returns-in_err-op : goal.returns-in_err-op
 returns-in_err-op c =
     let not = not_failed c.args.err.sequence_id.0 c.args.self.now c.settle.new.self c.args.err.error _ c.in_err-op.ensures in
     let p = err_from_is_err_and c.from_residual.result c.from_residual.ensures.1 in
-    record { result_value = rw (p.1, p.2) not.0; kept = rw p.1 not.1 }
+    record { meets = rw (p.1, p.2) not.0; kept = rw p.1 not.1 }

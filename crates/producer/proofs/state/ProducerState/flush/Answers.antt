@@ -20,4 +20,4 @@ returns c =
     let both =
     subst (λ (r : ProducerState). Flushes s f t d (store_core d.core r) o) (sym c.store_frame.ensures)
     (subst (λ (k : FlushDelta). Flushes s f t k (stored s f t k) o) (sym c.plan_flush-d.ensures) (plan_flushes s f t)) in
-    record { answer_value = both.0; kept = both.1 }
+    record { meets = both.0; kept = both.1 }

@@ -13,7 +13,7 @@ returns c =
     c.copy_entries.new.table c.copy_entries-2.new.table
     (rw (← c.of_kind-batched.ensures.same, ← c.as_slice.ensures) c.copy_entries.ensures)
     (rw (← c.of_kind-framed.ensures.same, ← c.as_slice-2.ensures) c.copy_entries-2.ensures) in
-    record { replay_after = rw c.after_snapshot-self.ensures all.0; dropped_after = all.1; replay_after_2 = all.2; kept = tt }
+    record { meets = rw c.after_snapshot-self.ensures all.0; dropped_left = all.1; replay_left = all.2; kept = tt }
 
 pub returns-in_err-counts : goal.returns-in_err-counts
 returns-in_err-counts c =
@@ -23,8 +23,8 @@ returns-in_err-counts c =
     (planned_by s c.args.dropped.now c.args.replay.now c.of_kind-batched.result c.of_kind-framed.result c.of_kind-batched.ensures c.of_kind-framed.ensures ∙ sym c.in_err-counts.ensures) in
     let p = err_from_is_err_and c.from_residual.result c.from_residual.ensures.1 in
     record {
-      replay_after = rw (p.1, p.2) all.0;
-      dropped_after = rw p.1 all.1;
-      replay_after_2 = rw p.1 all.2;
+      meets = rw (p.1, p.2) all.0;
+      dropped_left = rw p.1 all.1;
+      replay_left = rw p.1 all.2;
       kept = rw p.1 all.3;
     }

@@ -32,4 +32,4 @@ returns c =
     let both =
     subst (λ (r : ProducerState). Sent s g c.plan_send-d.result r o) (sym c.apply.ensures)
     (subst (λ (d : SendDelta). Sends s f g d o) (sym c.plan_send-d.ensures) (plan_sends s f g (length a.store.now))) in
-    record { answer_value = both.0; kept_send = both.1 }
+    record { meets = both.0; kept = both.1 }

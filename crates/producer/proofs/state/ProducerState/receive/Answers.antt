@@ -13,7 +13,7 @@ returns c =
     let t = c.settle.new.self in
     let m = c.args.receipt.message_id in
     record {
-      result_value =
+      meets =
           (λ j. (view (store_core (c.published-self.ensures j) t), done (c.in_ok-op.op, c.of_receipt.ensures j)))
           ∙ received c.args.receipt.sequence_id.0 s t m c.in_ok-op.op c.in_ok-op.ensures;
       kept = tt;
@@ -23,4 +23,4 @@ pub returns-in_err-op : goal.returns-in_err-op
 returns-in_err-op c =
     let not = not_received c.args.receipt.sequence_id.0 c.args.self.now c.settle.new.self c.args.receipt.message_id _ c.in_err-op.ensures in
     let p = err_from_is_err_and c.from_residual.result c.from_residual.ensures.1 in
-    record { result_value = rw (p.1, p.2) not.0; kept = rw p.1 not.1 }
+    record { meets = rw (p.1, p.2) not.0; kept = rw p.1 not.1 }

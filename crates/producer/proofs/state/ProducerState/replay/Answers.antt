@@ -20,8 +20,8 @@ front_frames-requires c =
     let entries : Queue → Queue = λ q. with_pending (front_all 256 (map mark c.args.table.now) q.pending) q in
     subst waits (sym (c.front_entries.ensures ∙ ap entries c.mark_all.ensures)) (waiting_few s _ _ _ c.in_ok-replay_answer.ensures)
 
-pub returns-clause-answer_value : goal.returns-clause-answer_value
-returns-clause-answer_value c =
+pub returns-clause-meets : goal.returns-clause-meets
+returns-clause-meets c =
     let s = c.args.self.now in
     let l = c.args.table.now in
     let f : Full s = record { outbound = omega arith; held = omega arith; pending = omega arith; ids = omega arith; marks = omega arith } in
@@ -34,8 +34,8 @@ returns-clause-answer_value c =
     ∙ ap (λ (r : Result (Unit {0}) ProducerError). ends_as r (view s) (replayed s l)) planned
     ∙ replays s f l
 
-pub returns-in_err-replay_answer-clause-answer_value : goal.returns-in_err-replay_answer-clause-answer_value
-returns-in_err-replay_answer-clause-answer_value c =
+pub returns-in_err-replay_answer-clause-meets : goal.returns-in_err-replay_answer-clause-meets
+returns-in_err-replay_answer-clause-meets c =
     let s = c.args.self.now in
     let l = c.args.table.now in
     let f : Full s = record { outbound = omega arith; held = omega arith; pending = omega arith; ids = omega arith; marks = omega arith } in

@@ -12,8 +12,8 @@ use Rattle.producer.specs.View.{view}
 use Rattle.producer.proofs.Replays.{ends_as, left, found, counts}
 use Rattle.producer.proofs.state.ProducerState.resend.Goals as goal
 
-pub returns-clause-answer_value : goal.returns-clause-answer_value
-returns-clause-answer_value c =
+pub returns-clause-meets : goal.returns-clause-meets
+returns-clause-meets c =
     let s = c.args.self.now in
     let e = found s _ _ _ (c.as_slice-2.ensures ∙ c.waiting_ids-ids.ensures.same) (c.as_slice.ensures ∙ c.entries-pending.ensures.same) c.picked-left.ensures.same in
     let planned = c.in_ok-count.ensures ∙ ap (λ (k : ℕ). replay_count k s.core) (c.frames_for.ensures ∙ ap (λ (l : List OpSend). add_sat 0 (frames_for l)) (c.as_slice-3.ensures ∙ e)) in
@@ -22,8 +22,8 @@ returns-clause-answer_value c =
     ∙ ap (λ (r : Result ℕ ProducerError). ends_as r (view s) (with_out (fronted (left s) (view s).out) (view s))) planned
     ∙ counts s
 
-pub returns-in_err-count-clause-answer_value : goal.returns-in_err-count-clause-answer_value
-returns-in_err-count-clause-answer_value c =
+pub returns-in_err-count-clause-meets : goal.returns-in_err-count-clause-meets
+returns-in_err-count-clause-meets c =
     let s = c.args.self.now in
     let e = found s _ _ _ (c.as_slice-2.ensures ∙ c.waiting_ids-ids.ensures.same) (c.as_slice.ensures ∙ c.entries-pending.ensures.same) c.picked-left.ensures.same in
     let planned = c.in_err-count.ensures ∙ ap (λ (k : ℕ). replay_count k s.core) (c.frames_for.ensures ∙ ap (λ (l : List OpSend). add_sat 0 (frames_for l)) (c.as_slice-3.ensures ∙ e)) in

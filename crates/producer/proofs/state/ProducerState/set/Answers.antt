@@ -17,4 +17,4 @@ returns c =
     let both =
     subst (λ (r : ProducerState × Result (Unit {0}) ProducerError). Sets s r (set a.s (view s)))
     (sym (c.change.ensures ∙ ap (λ (k : Result Core ProducerError). changed_by k s) c.set-plan.ensures)) (sets s a.s) in
-    record { answer_value = both.0; kept = both.1 }
+    record { meets = both.0; kept = both.1 }

@@ -17,4 +17,4 @@ returns c =
     let both =
     subst (λ (r : ProducerState × Result (Unit {0}) ProducerError). Sets s r (set_name a.name.now (view s)))
     (sym (c.change.ensures ∙ ap (λ (k : Result Core ProducerError). changed_by k s) c.set_name-plan.ensures)) (names s a.name.now) in
-    record { answer_value = both.0; kept = both.1 }
+    record { meets = both.0; kept = both.1 }

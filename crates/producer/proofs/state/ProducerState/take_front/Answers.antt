@@ -31,7 +31,7 @@ returns c =
     let both =
     takes_done s f _ _ c.slot-at.ensures store before small short got.result count.result count.ensures got.ensures c.plan_take.result c.plan_take.ensures
     c.in_ok-plan.plan c.in_ok-plan.was _ _ c.put_payload.ensures in
-    record { result_after = both.0; buffer_after = both.1.0; kept = both.1.1 }
+    record { meets = both.0; buffer_after = both.1.0; own = both.1.1.0; kept = both.1.1.1 }
 
 pub returns-in_err-plan : goal.returns-in_err-plan
 returns-in_err-plan c =
@@ -47,4 +47,4 @@ returns-in_err-plan c =
     takes_refused s f _ _ c.slot-at.ensures store before small short got.result count.result count.ensures got.ensures c.plan_take.result c.plan_take.ensures
     _ c.in_err-plan.was in
     let p = err_from_is_err_and c.from_residual.result c.from_residual.ensures.1 in
-    record { result_after = rw (p.1, p.2) both.0; buffer_after = rw p.1 both.1.0; kept = rw p.1 both.1.1 }
+    record { meets = rw (p.1, p.2) both.0; buffer_after = rw p.1 both.1.0; own = rw p.1 both.1.1.0; kept = rw p.1 both.1.1.1 }
