@@ -1,15 +1,18 @@
 // The operations that are lent tables, through the public methods.
-ghost use Rattle.std.specs.Prelude.{◌≤◌};
+ghost use Rattle.std.specs.Prelude.{◌≤◌, length};
+ghost use Rattle.host.specs.Framing.{handed};
 ghost use Rattle.script.specs.Output.{Writes};
 
 use crate::task::Task;
 use producer::state::ProducerState;
 use rules::blank::no_entry;
+use script::answer::put_done;
 use script::operation::{Call, ENTRY, MOST_ENTRIES, entries};
 use script::read::Place;
 use script::write::{Output, low_half};
 use tables::list::Listed;
 use types::entry::OpSend;
+use types::error::ProducerError;
 
 pub(crate) type Table = Listed<OpSend, { MOST_ENTRIES }>;
 
@@ -45,21 +48,33 @@ fn room_at(place: Place) -> usize
     (place.get::<u32>() as usize).min(256)
 }
 
+// What a drain answers: a count and so many entries of its table, or a refusal.
+fn put_drained(out: &mut Output, call: Call, table: &[OpSend], answer: Result<usize, ProducerError>)
+    requires { handed answer ≤ length table.now }
+    ensures { Writes out.old out.new }
+{
+    match answer {
+        Ok(n) => put_done(out, call, (low_half(n as u64), &table[..n])),
+        Err(e) => out.put((call, e)),
+    }
+}
+
 #[inline(never)]
 pub(crate) fn call_drain(s: &ProducerState, task: Task, out: &mut Output) -> ProducerState
     ensures { Writes out.old out.new }
 {
     let mut table = [no_entry(); MOST_ENTRIES];
-    let r = if task.call == Call::DrainTimedOutSends {
+    if task.call == Call::DrainTimedOutSends {
         let n = room_at(task.arguments.behind(8));
-        s.drain_timed_out_sends(task.arguments.get(), &mut table[..n])
+        let r = s.drain_timed_out_sends(task.arguments.get(), &mut table[..n]);
+        put_drained(out, task.call, &table[..n], r.answer);
+        r.state
     } else {
         let n = room_at(task.arguments);
-        s.drain_pending_sends(&mut table[..n])
-    };
-    let entries = r.answer.map(|n| (low_half(n as u64), first(&table, n)));
-    out.put((task.call, entries));
-    r.state
+        let r = s.drain_pending_sends(&mut table[..n]);
+        put_drained(out, task.call, &table[..n], r.answer);
+        r.state
+    }
 }
 
 // `last` has the replay table of the last snapshot. One that is refused leaves it.
@@ -77,19 +92,17 @@ pub(crate) fn call_snapshot(
     let n = room_at(task.arguments);
     let m = room_at(task.arguments.behind(4));
     let r = s.snapshot_pending_sends(&mut dropped[..n], &mut replay[..m]);
-    let answer = r.answer.map(|n| {
-        let counts = (low_half(n.dropped as u64), low_half(n.replay as u64));
-        (
-            counts,
-            (first(&dropped, n.dropped), first(&replay, n.replay)),
-        )
-    });
-    out.put((task.call, answer));
-    if let Ok(n) = r.answer {
-        *last = Listed {
-            items: replay,
-            len: n.replay,
-        };
+    match r.answer {
+        Ok(n) => {
+            let counts = (low_half(n.dropped as u64), low_half(n.replay as u64));
+            let entries = (&dropped[..n.dropped], &replay[..n.replay]);
+            put_done(out, task.call, (counts, entries));
+            *last = Listed {
+                items: replay,
+                len: n.replay,
+            };
+        }
+        Err(e) => out.put((task.call, e)),
     }
     r.state
 }

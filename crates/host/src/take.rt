@@ -47,15 +47,14 @@ pub(crate) fn put_taken(
     store: &[u8],
     answer: Result<OutboundFrame, ProducerError>,
 )
-    requires { (out.old.at ≤ buffer.start) × (buffer.end ≤ length out.old.bytes.now) }
+    requires { (out.old.at ≤ buffer.start) × (buffer.end ≤ length out.old.bytes.now) × (taken answer ≤ buffer.end - buffer.start) }
     ensures same_reference { out.new.bytes.ghost_name ≡ out.old.bytes.ghost_name }
-    ensures completes { Completes out.old.at buffer.start (taken answer (buffer.end - buffer.start)) out.old.bytes.now out.new.bytes.now out.new.at }
+    ensures completes { Completes out.old.at buffer.start (taken answer) out.old.bytes.now out.new.bytes.now out.new.at }
 {
     match answer {
         Ok(frame) => {
-            let n = frame.payload_len.min(buffer.end - buffer.start);
-            put_frame_head(&mut out.bytes[out.at..buffer.start], n);
-            out.at = buffer.start + n;
+            put_frame_head(&mut out.bytes[out.at..buffer.start], frame.payload_len);
+            out.at = buffer.start + frame.payload_len;
             out.put(frame.command);
             put_metadata(out, store, frame.metadata);
         }

@@ -1,6 +1,7 @@
 pub mod Borne
 pub mod Drains
 pub mod Entries
+pub mod Fits
 pub mod Flushes
 pub mod Fresh
 pub mod Fronts
