@@ -68,7 +68,7 @@ module _ (store : List ℕ) (q : Queue) (k : Well q) where
   unfolding flush_batch replay_snapshots replay_pending_outbound
   finds_room (send a) =
       λ w. plan_cases (length store) a q (λ p. p ≡ go w → Room q (records w) (one (joins w)) (one (not (is_too_large w))))
-      (λ n e. differ (cc))
+      (λ n x e. differ (cc))
       (λ i b passed e.
       let same : way_of q.settings a.message q.out.batch ≡ w = cc in
       rw same at
