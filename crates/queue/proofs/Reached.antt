@@ -33,7 +33,7 @@ use Rattle.laws.proofs.Pushes.{front_room}
 use Rattle.queue.proofs.ItemBounds.{Sendable, sendable}
 use Rattle.queue.proofs.Sound.{Sound, empty_sound, left_append, held_append, waits_append, waits_length, records_fit, take_sound}
 use Rattle.queue.proofs.Moves.{Well, flush_well, join_well, single_well, chunked_well, flush_if_lem, join_waiting}
-use Rattle.queue.proofs.Entries.{EachFormed, formed_append, settled_entries, timed_entries, marked_formed, all_well_formed_lem, unborne_formed, again_all}
+use Rattle.queue.proofs.Entries.{EachFormed, same_formed, formed_append, settled_entries, timed_entries, marked_all, all_well_formed_lem, unborne_all, again_all}
 
 -- ── a send ──
 
@@ -164,7 +164,7 @@ module _ (store : List ℕ) (q : Queue) (k : Well q) where
         out = fronted_sound l formed (ltb-false 1024 (q.out.waiting + frames_for l) z);
         pending = record {
           few = rw (length-map, length-append) (ltb-false 256 (length l + length q.pending) y);
-          formed = marked_formed (l ++ q.pending) (formed_append l q.pending formed k.pending.formed);
+          formed = marked_all same_formed (l ++ q.pending) (formed_append l q.pending formed k.pending.formed);
         };
       })))
 
@@ -174,7 +174,7 @@ module _ (store : List ℕ) (q : Queue) (k : Well q) where
       let l = unborne q.out.frames q.pending in
       pick_ind (λ (x : Outcome ℕ). Well x.0) (too_many (frames_for l) q) _ _ (λ z. k)
       (λ z. record {
-        out = fronted_sound l (unborne_formed q.out.frames q.pending k.pending.formed) (ltb-false 1024 (q.out.waiting + frames_for l) z);
+        out = fronted_sound l (unborne_all _ q.out.frames q.pending k.pending.formed) (ltb-false 1024 (q.out.waiting + frames_for l) z);
         pending = k.pending;
       })
 
