@@ -49,7 +49,7 @@ EmitsNone c r = Unit {0}
 
 -- the frames of the message that a call sends, by its answer and by the settings that it finds ('sends'); `Emit` answers how many
 pub data Cuts (store : List ℕ) (t : ProducerSettings) : (c : Call) → Answer (Gives c) → List Frame → Type 0 where
-  -- a refusal changes nothing, but that 6 comes after the flushes; a message that joined goes out with its batch
+  -- 'otherwise nothing changes on refusal', but that 6 comes after the flushes; a message that joined is in its batch's frame ('batch')
   none_cut : {c : Call} {r : Answer (Gives c)} → EmitsNone c r → Cuts store t c r []
   -- 'payload equal to `max_message_size` is not too large': a single frame
   not_cut : {a : Sending} {f : Frame} → large t a.message ≡ false → Whole (part_of store a.message.payload) f
