@@ -13,6 +13,7 @@ use Rattle.types.specs.declared.entry.Publish.{Publish}
 use Rattle.types.specs.declared.entry.Replay.{Replay}
 use Rattle.types.specs.declared.entry.Replay.TheVariants as replay
 use Rattle.types.specs.declared.frame.FrameRecord.{FrameRecord}
+use Rattle.wire.specs.Batch.{All}
 use Rattle.queue.specs.Send.{total_chunks, within_bounds}
 use Rattle.queue.specs.Settle.{bears, unmark, without, settled, unmark_all}
 use Rattle.queue.specs.Tables.{is_batched, framed_of, again, frames_for, well_formed_as, all_well_formed, mark, borne, unborne}
@@ -34,8 +35,7 @@ abbrev pub Formed : OpSend → Type 0
 Formed op = well_formed_as op op.publish.replay ≡ true
 
 abbrev pub EachFormed : List OpSend → Type 0
-EachFormed [] = Unit {0}
-EachFormed (op ∷ l) = Formed op × EachFormed l
+EachFormed l = All Formed l
 
 pub record Entries (l : List OpSend) : Type 0 where
   pub few : length l ≤ 256
@@ -47,16 +47,61 @@ formed_append (op ∷ a) b x y = (x.0, formed_append a b x.1 y)
 
 -- ── entries that go, and marks that change ──
 
--- no more entries, and each as well formed
-record Fewer (a b : List OpSend) : Type 0 where
+-- what hangs on the published part of an entry alone
+abbrev pub ByPublish : (OpSend → Type 0) → Type 0
+ByPublish P = (op p : OpSend) → op.publish ≡ p.publish → P op → P p
+
+-- no more entries, and what holds of each still does
+record Fewer (P : OpSend → Type 0) (a b : List OpSend) : Type 0 where
   fewer : length a ≤ length b
-  formed : EachFormed b → EachFormed a
+  kept : All P b → All P a
 
-same : (l : List OpSend) → Fewer l l
-same l = record { fewer = omega arith; formed = λ h. h }
+module _ {P : OpSend → Type 0} (by : ByPublish P) where
+  same : (l : List OpSend) → Fewer P l l
+  same l = record { fewer = omega arith; kept = λ h. h }
 
-both : {a b c : List OpSend} → Fewer a b → Fewer b c → Fewer a c
-both x y = record { fewer = omega (arith, x.fewer, y.fewer); formed = λ h. x.formed (y.formed h) }
+  both : {a b c : List OpSend} → Fewer P a b → Fewer P b c → Fewer P a c
+  both x y = record { fewer = omega (arith, x.fewer, y.fewer); kept = λ h. x.kept (y.kept h) }
+
+  map_fewer : (f : OpSend → OpSend) → ((op : OpSend) → (f op).publish ≡ op.publish) → (l : List OpSend) → Fewer P (map f l) l
+  map_fewer f e [] = same []
+  map_fewer f e (op ∷ l) =
+      let d = map_fewer f e l in
+      record { fewer = omega (arith, d.fewer); kept = λ h. (by op (f op) (sym (e op)) h.0, d.kept h.1) }
+
+  drop_fewer : (n : ℕ) (l : List OpSend) → Fewer P (drop n l) l
+  drop_fewer zero l = same l
+  drop_fewer (suc n) [] = same []
+  drop_fewer (suc n) (op ∷ l) = let d = drop_fewer n l in record { fewer = omega (arith, d.fewer); kept = λ h. d.kept h.1 }
+
+  without_fewer : (id : ℕ) (l : List OpSend) → Fewer P (without id l) l
+  without_fewer id [] = same []
+  without_fewer id (op ∷ l) =
+      let d = without_fewer id l in
+      pick_ind (λ x. Fewer P x (op ∷ l)) (bears id op) l (op ∷ without id l)
+      (λ e. record { fewer = omega arith; kept = λ h. h.1 })
+      (λ e. record { fewer = omega (arith, d.fewer); kept = λ h. (h.0, d.kept h.1) })
+
+  unmark_fewer : (gone l : List OpSend) → Fewer P (unmark_all gone l) l
+  unmark_fewer [] l = same l
+  unmark_fewer (op ∷ gone) l =
+      let id = op.sequence_id.0 in
+      both (unmark_fewer gone (map (unmark id) l)) (map_fewer (unmark id) (λ x. refl) l)
+
+  settled_fewer : (id : ℕ) (l : List OpSend) → Fewer P (settled id l) l
+  settled_fewer id l = both (map_fewer (unmark id) (λ x. refl) (without id l)) (without_fewer id l)
+
+  timed_fewer : (gone : List OpSend) (n : ℕ) (l : List OpSend) → Fewer P (unmark_all gone (drop n l)) l
+  timed_fewer gone n l = both (unmark_fewer gone (drop n l)) (drop_fewer n l)
+
+  pub settled_all : (id : ℕ) (l : List OpSend) → All P l → All P (settled id l)
+  settled_all id l = (settled_fewer id l).kept
+
+  pub timed_all : (gone : List OpSend) (n : ℕ) (l : List OpSend) → All P l → All P (unmark_all gone (drop n l))
+  timed_all gone n l = (timed_fewer gone n l).kept
+
+  pub marked_all : (l : List OpSend) → All P l → All P (map mark l)
+  marked_all l = (map_fewer mark (λ x. refl) l).kept
 
 -- 12 does not look at the mark
 formed_as : (op p : OpSend) (r : Replay) → op.publish ≡ p.publish → well_formed_as op r ≡ true → well_formed_as p r ≡ true
@@ -64,47 +109,19 @@ formed_as op p replay.Batched e h = rw e at h
 formed_as op p replay.Single e h = rw e at h
 formed_as op p (replay.Chunked count size) e h = rw e at h
 
-same_formed : (op p : OpSend) → op.publish ≡ p.publish → Formed op → Formed p
+pub same_formed : ByPublish Formed
 same_formed op p e h =
     let r : op.publish.replay ≡ p.publish.replay = ap (λ (x : Publish). x.replay) e in
     subst (λ (x : Replay). well_formed_as p x ≡ true) r (formed_as op p op.publish.replay e h)
 
-map_fewer : (f : OpSend → OpSend) → ((op : OpSend) → (f op).publish ≡ op.publish) → (l : List OpSend) → Fewer (map f l) l
-map_fewer f e [] = same []
-map_fewer f e (op ∷ l) =
-    let d = map_fewer f e l in
-    record { fewer = omega (arith, d.fewer); formed = λ h. (same_formed op (f op) (sym (e op)) h.0, d.formed h.1) }
-
-drop_fewer : (n : ℕ) (l : List OpSend) → Fewer (drop n l) l
-drop_fewer zero l = same l
-drop_fewer (suc n) [] = same []
-drop_fewer (suc n) (op ∷ l) = let d = drop_fewer n l in record { fewer = omega (arith, d.fewer); formed = λ h. d.formed h.1 }
-
-without_fewer : (id : ℕ) (l : List OpSend) → Fewer (without id l) l
-without_fewer id [] = same []
-without_fewer id (op ∷ l) =
-    let d = without_fewer id l in
-    pick_ind (λ x. Fewer x (op ∷ l)) (bears id op) l (op ∷ without id l)
-    (λ e. record { fewer = omega arith; formed = λ h. h.1 })
-    (λ e. record { fewer = omega (arith, d.fewer); formed = λ h. (h.0, d.formed h.1) })
-
-unmark_fewer : (gone l : List OpSend) → Fewer (unmark_all gone l) l
-unmark_fewer [] l = same l
-unmark_fewer (op ∷ gone) l =
-    let id = op.sequence_id.0 in
-    both (unmark_fewer gone (map (unmark id) l)) (map_fewer (unmark id) (λ x. refl) l)
-
-fewer_entries : {a b : List OpSend} → Fewer a b → Entries b → Entries a
-fewer_entries d k = record { few = omega (arith, d.fewer, k.few); formed = d.formed k.formed }
+fewer_entries : {a b : List OpSend} → Fewer Formed a b → Entries b → Entries a
+fewer_entries d k = record { few = omega (arith, d.fewer, k.few); formed = d.kept k.formed }
 
 pub settled_entries : (id : ℕ) (l : List OpSend) → Entries l → Entries (settled id l)
-settled_entries id l = fewer_entries (both (map_fewer (unmark id) (λ x. refl) (without id l)) (without_fewer id l))
+settled_entries id l = fewer_entries (settled_fewer same_formed id l)
 
 pub timed_entries : (gone : List OpSend) (n : ℕ) (l : List OpSend) → Entries l → Entries (unmark_all gone (drop n l))
-timed_entries gone n l = fewer_entries (both (unmark_fewer gone (drop n l)) (drop_fewer n l))
-
-pub marked_formed : (l : List OpSend) → EachFormed l → EachFormed (map mark l)
-marked_formed l = (map_fewer mark (λ x. refl) l).formed
+timed_entries gone n l = fewer_entries (timed_fewer same_formed gone n l)
 
 -- ── an entry more ──
 
@@ -132,12 +149,19 @@ pub formed_all : (l : List OpSend) → EachFormed l → all_well_formed l ≡ tr
 formed_all [] h = refl
 formed_all (op ∷ l) h = rw (h.0, formed_all l h.1)
 
-pub unborne_formed : (rs : List FrameRecord) (l : List OpSend) → EachFormed l → EachFormed (unborne rs l)
-unborne_formed rs [] h = tt
-unborne_formed rs (op ∷ l) h =
-    pick_ind EachFormed (borne op.sequence_id.0 rs) (unborne rs l) (op ∷ unborne rs l)
-    (λ e. unborne_formed rs l h.1)
-    (λ e. (h.0, unborne_formed rs l h.1))
+pub unborne_all : (P : OpSend → Type 0) (rs : List FrameRecord) (l : List OpSend) → All P l → All P (unborne rs l)
+unborne_all P rs [] h = tt
+unborne_all P rs (op ∷ l) h =
+    pick_ind (All P) (borne op.sequence_id.0 rs) (unborne rs l) (op ∷ unborne rs l)
+    (λ e. unborne_all P rs l h.1)
+    (λ e. (h.0, unborne_all P rs l h.1))
+
+pub framed_all : (P : OpSend → Type 0) (l : List OpSend) → All P l → All P (framed_of l)
+framed_all P [] h = tt
+framed_all P (op ∷ l) h =
+    pick_ind (All P) (is_batched op.publish.replay) (framed_of l) (op ∷ framed_of l)
+    (λ e. framed_all P l h.1)
+    (λ e. (h.0, framed_all P l h.1))
 
 -- the records of entries that are pushed again
 pub record Again (l : List OpSend) (rs : List FrameRecord) : Type 0 where

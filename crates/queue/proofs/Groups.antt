@@ -4,7 +4,7 @@ use mathlib.Core.Path.{◌≡◌, refl, sym, ◌∙◌}
 use mathlib.Core.Bool.{Bool, true, false, ◌&&◌}
 use mathlib.Core.List.{List, [], ◌∷◌, ◌++◌, append_assoc, append-nil, map}
 use native.Mathlib.Omega.{arith}
-use lib.ListN.{length, take, drop}
+use lib.ListN.{length, take, drop, length-append}
 use lib.Seq.{take-append_seam, drop-append_seam}
 use lib.Dec.{ltb, eqb}
 use borrow.Author.Tests.{leb-true, le-leb, lt-ltb, le-ltb}
@@ -23,8 +23,9 @@ use Rattle.queue.specs.Queue.{Queue, Outgoing, done, refuse, with_out}
 use Rattle.queue.specs.Send.{message_in}
 use Rattle.queue.specs.Frame.{Frame, single_frame, batch_frame, chunk_frame, chunk_part, single_in, all_in, borne_in}
 use Rattle.queue.specs.Take.{with_kind, next_chunk, taken, next_outbound_frame}
+use Rattle.queue.specs.Reachable.{left, left_all}
 use Rattle.laws.proofs.Choice.{false_true}
-use Rattle.queue.proofs.Reading.{chunk_run, Cut}
+use Rattle.queue.proofs.Reading.{chunk_run, run_length, Cut}
 
 -- a single message; a batch frame with its messages; n + 1 chunks that wait
 pub data Group : Type 0 where
@@ -99,6 +100,17 @@ pub record Stands (store : List ℕ) (o : Outgoing) (gs : List Group) (ms : List
   pub frames : o.frames ≡ map record_in gs
   pub held : o.held ≡ held_all gs ++ ms
   pub agrees : All (Agrees store) gs
+
+-- they yield as many frames as wait
+frames_left : (store : List ℕ) (handle : ProducerHandle) (g : Group) → Agrees store g → length (frames_in store handle g) ≡ left (record_in g).kind
+frames_left store handle (single r) k = refl
+frames_left store handle (batch r b ms) k = refl
+frames_left store handle (chunks r c n) k = omega (arith, run_length store handle r c (suc n), k.left)
+
+pub frames_count : (store : List ℕ) (handle : ProducerHandle) (gs : List Group) → All (Agrees store) gs
+    → length (frames_all store handle gs) ≡ left_all (map record_in gs)
+frames_count store handle [] k = refl
+frames_count store handle (g ∷ gs) k = rw length-append (omega (arith, frames_left store handle g k.0, frames_count store handle gs k.1))
 
 -- ── a take ──
 

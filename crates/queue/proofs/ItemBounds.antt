@@ -8,6 +8,7 @@ use lib.Dec.{leb}
 use borrow.Author.Tests.{leb-true}
 use Rattle.types.specs.MemoryLimit.{reservable}
 use Rattle.types.specs.Values.{up_to}
+use Rattle.types.specs.declared.message.OutgoingMessage.{OutgoingMessage}
 use Rattle.wire.specs.Batch.{WithinBounds, len_of}
 use Rattle.queue.specs.Batch.{single_of}
 use Rattle.queue.specs.Send.{Sending, within_bounds}
@@ -22,6 +23,9 @@ part_within (Some p) h = leb-true p.len 1024 h
 number_within : (x : Option ℕ) → Is64 x → unwrap_or x 0 < 2 ^ 64
 number_within None h = omega arith
 number_within (Some n) h = h
+
+pub payload_within : (m : OutgoingMessage) (reserved : ℕ) → within_bounds m reserved ≡ true → m.payload.len ≤ 16777216
+payload_within m reserved h = leb-true m.payload.len 16777216 (and_left _ _ (and_left _ _ (and_left _ _ (and_left _ _ (and_left _ _ h)))))
 
 -- a send that refusal 3 lets through
 pub record Sendable (a : Sending) : Type 0 where
@@ -44,7 +48,7 @@ sendable s h is64 =
       within = h;
       reservation = and_right (a && b && c && d && e) (reservable s.reserved) h;
       bounds = record {
-        payload = leb-true m.payload.len 16777216 (and_left a b ab);
+        payload = payload_within m s.reserved h;
         partition_key = part_within m.partition_key (and_right a b ab);
         ordering_key = part_within m.ordering_key (and_right (a && b) c abc);
         event_time = number_within m.event_time is64;

@@ -6,6 +6,7 @@ pub mod Reached
 pub mod Rooms
 pub mod Reading
 pub mod Groups
+pub mod Int32
 pub mod Chunking
 pub mod Sends
 pub mod SendSteps

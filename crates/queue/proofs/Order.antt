@@ -1,9 +1,10 @@
 -- The order rule: by induction on the calls, and then on the takes that are left.
 use Rattle.std.specs.Prelude.{Some}
-use Prim.Native.Nat.{ℕ}
+use Prim.Native.Nat.{ℕ, ◌+◌}
 use mathlib.Core.Path.{◌≡◌, refl, sym, ◌∙◌}
 use mathlib.Core.List.{List, [], ◌∷◌, ◌++◌, append_assoc, append-nil}
 use native.Mathlib.Omega.{arith}
+use lib.ListN.{length, length-append}
 use borrow.Author.Tests.{eqb-true}
 use Rattle.types.specs.declared.types.ProducerHandle.{ProducerHandle}
 use Rattle.queue.specs.Queue.{Queue, new_queue}
@@ -16,7 +17,7 @@ use Rattle.queue.specs.Chunks.{CallByCall, no_call, one_call, ChunkRule}
 use Rattle.queue.proofs.Moves.{Well}
 use Rattle.queue.proofs.Reached.{step_well, run_well, new_well}
 use Rattle.queue.proofs.Groups.{frames_all}
-use Rattle.queue.proofs.Sends.{Holds, empty_open}
+use Rattle.queue.proofs.Sends.{Holds, empty_open, all_count}
 use Rattle.queue.proofs.Steps.{step_holds}
 use Rattle.queue.proofs.Takes.{takes_end, takes_only}
 
@@ -39,13 +40,18 @@ runs_hold store (c ∷ cs) q took acc all k w is64 covered =
     let took₁ = frame_of c r.1 in
     let acc₁ = accepted_by store c r.1 in
     let h = step_holds store q took acc all k w c is64.0 covered.0 in
-    let all₁ = all ++ h.plain ++ h.chunks in
-    let ran = runs_hold store cs r.0 (took ++ took₁) (acc ++ acc₁) all₁ h.holds (step_well store q w c is64.0) is64.1 covered.1 in
-    let grown : all ++ (h.plain ++ (h.chunks ++ ran.more)) ≡ all₁ ++ ran.more =
-    sym (append_assoc (all ++ h.plain) h.chunks ran.more ∙ append_assoc all h.plain (h.chunks ++ ran.more)) in
+    let all₁ = all ++ h.flushes ++ h.own in
+    let well = step_well store q w c is64.0 in
+    let ran = runs_hold store cs r.0 (took ++ took₁) (acc ++ acc₁) all₁ h.holds well is64.1 covered.1 in
+    let grown : all ++ (h.flushes ++ (h.own ++ ran.more)) ≡ all₁ ++ ran.more =
+    sym (append_assoc (all ++ h.flushes) h.own ran.more ∙ append_assoc all h.flushes (h.own ++ ran.more)) in
+    let found = all_count store q.handle q.out took acc all k w.out in
+    let left = all_count store r.0.handle r.0.out (took ++ took₁) (acc ++ acc₁) all₁ h.holds well.out in
+    let waits : q.out.waiting + length (h.flushes ++ h.own) ≡ r.0.out.waiting + length took₁ =
+    omega (arith, found, rw (append_assoc all h.flushes h.own, length-append all, length-append took) at left) in
     record {
-      more = h.plain ++ (h.chunks ++ ran.more);
-      calls = one_call h.plain h.chunks h.unchunked h.cut ran.calls;
+      more = h.flushes ++ (h.own ++ ran.more);
+      calls = one_call h.flushes h.own h.of_batch h.cut waits ran.calls;
       holds = rw (
         ← append_assoc took took₁ (taken store r.0 cs),
         ← append_assoc acc acc₁ (accepted store r.0 cs),

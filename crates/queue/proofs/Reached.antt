@@ -6,7 +6,7 @@ use mathlib.Core.Bool.{Bool, true, false, not, ◌&&◌, ◌||◌}
 use mathlib.Core.List.{List, [], ◌∷◌, ◌++◌, map}
 use native.Mathlib.Omega.{arith}
 use lib.ListN.{length, take as firsts, drop as lasts, length-append, length-map}
-use lib.Dec.{ltb, leb}
+use lib.Dec.{ltb, leb, eqb}
 use borrow.Author.Tests.{ltb-false, leb-false, not-false}
 use Rattle.laws.specs.Numbers.{add_sat}
 use Rattle.types.specs.declared.batch.BatchContainer.{BatchContainer}
@@ -33,7 +33,7 @@ use Rattle.laws.proofs.Pushes.{front_room}
 use Rattle.queue.proofs.ItemBounds.{Sendable, sendable}
 use Rattle.queue.proofs.Sound.{Sound, empty_sound, left_append, held_append, waits_append, waits_length, records_fit, take_sound}
 use Rattle.queue.proofs.Moves.{Well, flush_well, join_well, single_well, chunked_well, flush_if_lem, join_waiting}
-use Rattle.queue.proofs.Entries.{EachFormed, formed_append, settled_entries, timed_entries, marked_formed, all_well_formed_lem, unborne_formed, again_all}
+use Rattle.queue.proofs.Entries.{EachFormed, same_formed, formed_append, settled_entries, timed_entries, marked_all, all_well_formed_lem, unborne_all, again_all}
 
 -- ── a send ──
 
@@ -79,24 +79,25 @@ module _ (n : ℕ) (a : Sending) (q : Queue) where
   abbrev pub Goes : Type 0 → Type 0
   Goes P = message_in n a.message a.message.payload ≡ true → within_bounds a.message a.reserved ≡ true → Passed way_of_lem q → P
 
-  pub plan_cases : (P : Plan → Type 0) → ((number : ℕ) → P (no number)) → Goes (P (go way_of_lem)) → P (plan n a q)
+  -- 6 is no such refusal: it goes its way
+  pub plan_cases : (P : Plan → Type 0) → ((number : ℕ) → eqb number 6 ≡ false → P (no number)) → Goes (P (go way_of_lem)) → P (plan n a q)
   unfolding plan
   plan_cases P stay goes =
-      pick_ind P q.settings.switches.closed _ _ (λ x. stay 1)
-      (λ x. pick_ind P (not (message_in n a.message a.message.payload)) _ _ (λ y. stay 2)
-      (λ i. pick_ind P (not (within_bounds a.message a.reserved)) _ _ (λ y. stay 3)
-      (λ b. pick_ind P (too_many (pushes way_of_lem) q) _ _ (λ y. stay 4)
-      (λ f. pick_ind P (joins way_of_lem && leb 512 (length q.out.held)) _ _ (λ y. stay 5)
+      pick_ind P q.settings.switches.closed _ _ (λ x. stay 1 refl)
+      (λ x. pick_ind P (not (message_in n a.message a.message.payload)) _ _ (λ y. stay 2 refl)
+      (λ i. pick_ind P (not (within_bounds a.message a.reserved)) _ _ (λ y. stay 3 refl)
+      (λ b. pick_ind P (too_many (pushes way_of_lem) q) _ _ (λ y. stay 4 refl)
+      (λ f. pick_ind P (joins way_of_lem && leb 512 (length q.out.held)) _ _ (λ y. stay 5 refl)
       (λ h.
       let frames : q.out.waiting + pushes way_of_lem ≤ 1024 = ltb-false 1024 (q.out.waiting + pushes way_of_lem) f in
       pick_ind P (is_too_large way_of_lem) _ _
       (λ l. goes (not-false _ i) (not-false _ b) (record { frames = frames; held = h; pending = λ e. false_true (sym e ∙ l) }))
-      (λ l. pick_ind P (leb 256 (length q.pending)) _ _ (λ y. stay 7)
+      (λ l. pick_ind P (leb 256 (length q.pending)) _ _ (λ y. stay 7 refl)
       (λ y. goes (not-false _ i) (not-false _ b) (record { frames = frames; held = h; pending = λ e. leb-false 256 (length q.pending) y }))))))))
 
   pub send_cases : (P : Outcome Decision → Type 0) → ((number : ℕ) → P (refuse number q)) → Goes (P (carried_out a q (go way_of_lem))) → P (queue_send n a q)
   unfolding queue_send
-  send_cases P stay goes = plan_cases (λ p. P (carried_out a q p)) stay goes
+  send_cases P stay goes = plan_cases (λ p. P (carried_out a q p)) (λ number e. stay number) goes
 
 module _ (store : List ℕ) (q : Queue) (k : Well q) where
   send_well : (a : Sending) → Ranged (send a) → Well (queue_send (length store) a q).0
@@ -163,7 +164,7 @@ module _ (store : List ℕ) (q : Queue) (k : Well q) where
         out = fronted_sound l formed (ltb-false 1024 (q.out.waiting + frames_for l) z);
         pending = record {
           few = rw (length-map, length-append) (ltb-false 256 (length l + length q.pending) y);
-          formed = marked_formed (l ++ q.pending) (formed_append l q.pending formed k.pending.formed);
+          formed = marked_all same_formed (l ++ q.pending) (formed_append l q.pending formed k.pending.formed);
         };
       })))
 
@@ -173,7 +174,7 @@ module _ (store : List ℕ) (q : Queue) (k : Well q) where
       let l = unborne q.out.frames q.pending in
       pick_ind (λ (x : Outcome ℕ). Well x.0) (too_many (frames_for l) q) _ _ (λ z. k)
       (λ z. record {
-        out = fronted_sound l (unborne_formed q.out.frames q.pending k.pending.formed) (ltb-false 1024 (q.out.waiting + frames_for l) z);
+        out = fronted_sound l (unborne_all _ q.out.frames q.pending k.pending.formed) (ltb-false 1024 (q.out.waiting + frames_for l) z);
         pending = k.pending;
       })
 

@@ -80,6 +80,12 @@ unfoldable pub chunk_run : List ℕ → ProducerHandle → FrameRecord → Chunk
 chunk_run store handle r c zero = []
 chunk_run store handle r c (suc n) = chunk_frame store handle r c ∷ chunk_run store handle r (next_chunk c) n
 
+pub run_length : (store : List ℕ) (handle : ProducerHandle) (r : FrameRecord) (c : ChunkedMessageContext) (n : ℕ)
+    → length (chunk_run store handle r c n) ≡ n
+unfolding chunk_run
+run_length store handle r c zero = refl
+run_length store handle r c (suc n) = omega (arith, run_length store handle r (next_chunk c) n)
+
 -- all the chunks wait
 abbrev pub from_first : ℕ → ℕ → ChunkedMessageContext
 from_first size count = record { total_chunks = count; next_chunk = 0; max_chunk_size = size }

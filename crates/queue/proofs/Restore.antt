@@ -22,17 +22,10 @@ use Rattle.queue.specs.Restore.{RestoreRule}
 use Rattle.laws.proofs.Choice.{pick_ind, differ}
 use Rattle.laws.proofs.Pushes.{front_room}
 use Rattle.queue.proofs.Sound.{waits_length}
-use Rattle.queue.proofs.Entries.{EachFormed, formed_all, again_all}
+use Rattle.queue.proofs.Entries.{EachFormed, formed_all, framed_all, again_all}
 use Rattle.queue.proofs.Reached.{run_well, new_well}
 
 -- ── the entries of the table ──
-
-framed_formed : (l : List OpSend) → EachFormed l → EachFormed (framed_of l)
-framed_formed [] h = tt
-framed_formed (op ∷ l) h =
-    pick_ind EachFormed (is_batched op.publish.replay) (framed_of l) (op ∷ framed_of l)
-    (λ e. framed_formed l h.1)
-    (λ e. (h.0, framed_formed l h.1))
 
 framed_fewer : (l : List OpSend) → length (framed_of l) ≤ length l
 framed_fewer [] = omega arith
@@ -140,7 +133,7 @@ restore_rule store handle cs is64 droppedRoom replayRoom p d r e room =
     let l = framed_of q.pending in
     let k = run_well store cs (new_queue handle) (new_well handle) is64 in
     let s = snapshot_is droppedRoom replayRoom q p d r e in
-    let formed = framed_formed q.pending k.pending.formed in
+    let formed = framed_all _ q.pending k.pending.formed in
     let few : length l ≤ 256 = omega (arith, framed_fewer q.pending, k.pending.few) in
     let fits : frames_for l ≤ 1024 = rw s.kept at room in
     let is : replay_snapshots r p ≡ (restored l q, done tt) =

@@ -20,7 +20,7 @@ use Rattle.queue.specs.Reachable.{records, Room, FindsRoom, ReachableRule}
 use Rattle.laws.proofs.Choice.{pick_ind, differ}
 use Rattle.queue.proofs.Sound.{waits_length, records_fit}
 use Rattle.queue.proofs.Moves.{Well}
-use Rattle.queue.proofs.Entries.{EachFormed, all_well_formed_lem, unborne_formed, again_all, some_chunk}
+use Rattle.queue.proofs.Entries.{EachFormed, all_well_formed_lem, unborne_all, again_all, some_chunk}
 use Rattle.queue.proofs.Reached.{ChunkCount, way_chunks, Passed, plan_cases, run_well, new_well}
 
 module _ (store : List ℕ) (q : Queue) (k : Well q) where
@@ -68,7 +68,7 @@ module _ (store : List ℕ) (q : Queue) (k : Well q) where
   unfolding flush_batch replay_snapshots replay_pending_outbound
   finds_room (send a) =
       λ w. plan_cases (length store) a q (λ p. p ≡ go w → Room q (records w) (one (joins w)) (one (not (is_too_large w))))
-      (λ n e. differ (cc))
+      (λ n x e. differ (cc))
       (λ i b passed e.
       let same : way_of q.settings a.message q.out.batch ≡ w = cc in
       rw same at
@@ -107,7 +107,7 @@ module _ (store : List ℕ) (q : Queue) (k : Well q) where
       let l = unborne q.out.frames q.pending in
       let P : Outcome ℕ → Type 0 = λ r. r.1 ≡ done frames → Room q (length (framed_of l)) 0 0 in
       pick_ind P (too_many (frames_for l) q) _ _ (λ z e. differ (cc))
-      (λ z e. replay_room l 0 (unborne_formed q.out.frames q.pending k.pending.formed) (ltb-false 1024 (q.out.waiting + frames_for l) z)
+      (λ z e. replay_room l 0 (unborne_all _ q.out.frames q.pending k.pending.formed) (ltb-false 1024 (q.out.waiting + frames_for l) z)
       (omega (arith, k.pending.few)))
 
 pub reachable_rule : ReachableRule

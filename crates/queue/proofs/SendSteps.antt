@@ -12,23 +12,24 @@ use borrow.Author.Tests.{eqb-true, leb-false}
 use Rattle.laws.specs.Numbers.{add_sat}
 use Rattle.types.specs.Values.{part_in, maybe_in}
 use Rattle.types.specs.declared.message.OutgoingMessage.{OutgoingMessage}
+use Rattle.types.specs.declared.settings.ProducerSettings.{ProducerSettings}
 use Rattle.types.specs.declared.types.ProducerHandle.{ProducerHandle}
 use Rattle.types.specs.declared.way.Way.{Way}
 use Rattle.wire.specs.Batch.{All, WithinBounds}
-use Rattle.queue.specs.Queue.{Queue, Outgoing, Outcome}
+use Rattle.queue.specs.Queue.{Queue, Outgoing, Outcome, done}
 use Rattle.queue.specs.Batch.{batchable, can_add_to_batch, may_join, is_empty, is_full, same_txn, single_of, at_least_one, flushed}
-use Rattle.queue.specs.Send.{Sending, large, chunk_size, total_chunks, other_txn, in_the_way, flushes_before, left_of, way_into, message_in, one, go, add_to_batch, emit_single, emit_chunked, flush_if, follow, carried_out, queue_send}
+use Rattle.queue.specs.Send.{Sending, emitted, large, chunk_size, total_chunks, other_txn, in_the_way, flushes_before, left_of, way_into, message_in, one, go, add_to_batch, emit_single, emit_chunked, flush_if, follow, carried_out, queue_send}
 use Rattle.queue.specs.Frame.{Frame, single_frame, single_in}
 use Rattle.queue.specs.Message.{Message, message_of}
 use Rattle.queue.specs.Run.{Call, send, Ranged, Gives, frame_of, accepted_by}
 use Rattle.queue.specs.Order.{Covered}
-use Rattle.queue.specs.Chunks.{Unchunked, Cuts, none_cut, one_cut}
+use Rattle.queue.specs.Chunks.{OfBatch, EmitsNone, Cuts, none_cut, not_cut, one_cut}
 use Rattle.laws.proofs.Choice.{pick_ind, false_true, and_left, and_right, or_left, or_right}
 use Rattle.queue.proofs.ItemBounds.{Sendable, sendable}
 use Rattle.queue.proofs.Moves.{Well, flush_out, join_out, single_out_lem, chunked_out, single_record, chunked_record, join_well, AfterFlush, flush_if_lem, join_waiting}
 use Rattle.queue.proofs.Reached.{Passed, send_cases}
 use Rattle.queue.proofs.Entries.{some_chunk}
-use Rattle.queue.proofs.Reading.{chunk_run, from_first, Cut}
+use Rattle.queue.proofs.Reading.{chunk_run, run_length, from_first, Cut}
 use Rattle.queue.proofs.Groups.{Kept, all_append}
 use Rattle.queue.proofs.Chunking.{size_some, size_within, cut_holds, chunks_cut}
 use Rattle.queue.proofs.Sends.{Holds, Grows, flush_holds, single_holds, chunks_hold, join_holds}
@@ -36,18 +37,24 @@ use Rattle.types.specs.declared.txn.TxnId.{TxnId}
 
 -- what a call has to keep, and what it appends
 pub record Keeps (store : List ℕ) (q : Queue) (c : Call) (took : List Frame) (acc : List Message) (all : List Frame) (r : Outcome (Gives c)) : Type 0 where
-  pub plain : List Frame
-  pub chunks : List Frame
-  pub unchunked : All Unchunked plain
-  pub cut : Cuts store q.settings.limits.max_message_size c chunks
-  pub holds : Holds store r.0.handle r.0.out (took ++ frame_of c r.1) (acc ++ accepted_by store c r.1) (all ++ plain ++ chunks)
+  pub flushes : List Frame
+  pub own : List Frame
+  pub of_batch : All OfBatch flushes
+  pub cut : Cuts store q.settings c r.1 own
+  pub holds : Holds store r.0.handle r.0.out (took ++ frame_of c r.1) (acc ++ accepted_by store c r.1) (all ++ flushes ++ own)
 
--- a call that appends no chunk
+-- a call that emits no message of its own
 pub plain_keeps : (store : List ℕ) (q : Queue) (c : Call) (took : List Frame) (acc : List Message) (all : List Frame) (r : Outcome (Gives c))
-    → Grows Unchunked store r.0.handle r.0.out (took ++ frame_of c r.1) (acc ++ accepted_by store c r.1) all
+    → EmitsNone c r.1
+    → Grows OfBatch store r.0.handle r.0.out (took ++ frame_of c r.1) (acc ++ accepted_by store c r.1) all
     → Keeps store q c took acc all r
-plain_keeps store q c took acc all r g =
-    record { plain = g.more; chunks = []; unchunked = g.each; cut = none_cut; holds = rw (append-nil (all ++ g.more)) g.holds }
+plain_keeps store q c took acc all r silent g =
+    record { flushes = g.more; own = []; of_batch = g.each; cut = none_cut silent; holds = rw (append-nil (all ++ g.more)) g.holds }
+
+-- the answer is the number of the frames
+emits_many : {store : List ℕ} {t : ProducerSettings} (a : Sending) (fs : List Frame) (n : ℕ) → n ≡ length fs
+    → Cuts store t (send a) (done (emitted (length fs))) fs → Cuts store t (send a) (done (emitted n)) fs
+emits_many a fs n e k = rw e k
 
 -- nothing taken, nothing accepted
 pub still : {store : List ℕ} {handle : ProducerHandle} {o : Outgoing} {took : List Frame} {acc : List Message} {all : List Frame}
@@ -56,13 +63,13 @@ still {took} {acc} k = rw (append-nil took, append-nil acc) k
 
 -- no frame more, or these and then more
 pub grows_none : {store : List ℕ} {handle : ProducerHandle} {o : Outgoing} {took : List Frame} {acc : List Message} {all : List Frame}
-    → Holds store handle o took acc all → Grows Unchunked store handle o took acc all
+    → Holds store handle o took acc all → Grows OfBatch store handle o took acc all
 grows_none {all} k = record { more = []; each = tt; holds = rw (append-nil all) k }
 
 grows_more : {store : List ℕ} {handle : ProducerHandle} {o : Outgoing} {took : List Frame} {acc : List Message} {all : List Frame}
-    → (first : List Frame) → All Unchunked first → Grows Unchunked store handle o took acc (all ++ first) → Grows Unchunked store handle o took acc all
+    → (first : List Frame) → All OfBatch first → Grows OfBatch store handle o took acc (all ++ first) → Grows OfBatch store handle o took acc all
 grows_more {all} first each g =
-    record { more = first ++ g.more; each = all_append Unchunked first g.more each g.each; holds = rw (← append_assoc all first g.more) g.holds }
+    record { more = first ++ g.more; each = all_append OfBatch first g.more each g.each; holds = rw (← append_assoc all first g.more) g.holds }
 
 -- ── tests of a send ──
 
@@ -89,6 +96,12 @@ one_kind true b s h e f = false_true (sym e)
 one_kind false true true h e f = refl
 one_kind false true false h e f = sym h
 one_kind false false s h e f = false_true f
+
+-- a message above the limit that is not refused: chunking is on
+chunking_on : (large on : Bool) → (large && not on) ≡ false → large ≡ true → on ≡ true
+chunking_on true true h e = refl
+chunking_on true false h e = sym h
+chunking_on false on h e = false_true e
 
 kept_of : (store : List ℕ) (m : OutgoingMessage) → message_in (length store) m m.payload ≡ true → WithinBounds (single_of m) → Kept store (single_of m)
 kept_of store m i s =
@@ -131,7 +144,7 @@ module _ (q : Queue) where
 module _ (store : List ℕ) (q : Queue) (took : List Frame) (acc : List Message) (all : List Frame)
     (k : Holds store q.handle q.out took acc all) (w : Well q) where
   pub flush_if_holds : (flush : Bool) (time : ℕ) → q.out.waiting + one flush ≤ 1024
-      → Grows Unchunked store (flush_if flush time q).handle (flush_if flush time q).out took acc all
+      → Grows OfBatch store (flush_if flush time q).handle (flush_if flush time q).out took acc all
   unfolding flushed
   flush_if_holds true time room =
       rw (flush_out q w time room) (flush_holds store q.handle q.out took acc all k q.settings time)
@@ -179,15 +192,15 @@ module _ (store : List ℕ) (q : Queue) (took : List Frame) (acc : List Message)
         let b = left_of t m before q.out.batch in
         let p = flush_if before time q in
         let f : q.out.waiting + one before ≤ 1024 → AfterFlush before q p = λ r. flush_if_lem q w before time r in
-        let h : q.out.waiting + one before ≤ 1024 → Grows Unchunked store p.handle p.out took acc all =
+        let h : q.out.waiting + one before ≤ 1024 → Grows OfBatch store p.handle p.out took acc all =
         λ r. flush_if_holds store q took acc all k w before time r in
         let P : Way → Type 0 = λ x. Passed x q → Keeps store q (send a) took acc all (carried_out a q (go x)) in
         pick_ind P (large t m && not t.switches.chunking_enabled) _ _
         (λ x r.
         let g = h r.frames in
-        plain_keeps store q (send a) took acc all _
+        plain_keeps store q (send a) took acc all _ tt
         (record { more = g.more; each = g.each; holds = still g.holds }))
-        (λ x. pick_ind P (may_join t b m) _ _
+        (λ within. pick_ind P (may_join t b m) _ _
         (λ j r.
         let room : q.out.waiting + one before ≤ 1024 = omega (arith, r.frames) in
         let g = h room in
@@ -195,7 +208,7 @@ module _ (store : List ℕ) (q : Queue) (took : List Frame) (acc : List Message)
         let held : length p.out.held < 512 = rw x.held (leb-false 512 (length q.out.held) r.held) in
         let joined = join_keeps store p took acc (all ++ g.more) g.holds x.well a held (kept_of store m i s.bounds) (agreed q before m time e j) in
         let well = join_well p x.well a held (rw x.pending (r.pending refl)) s in
-        plain_keeps store q (send a) took acc all _
+        plain_keeps store q (send a) took acc all _ tt
         (rw (append-nil took)
         (grows_more g.more g.each
         (flush_if_holds store (add_to_batch a p) took _ (all ++ g.more) joined well (is_full t _ _) time
@@ -210,11 +223,14 @@ module _ (store : List ℕ) (q : Queue) (took : List Frame) (acc : List Message)
         let cut = cut_holds m.payload.len size (size_some limit covered) s.bounds.payload in
         let any = some_chunk m.payload.len size in
         let c = chunked_record p a size count in
+        let own = chunk_run store p.handle c (from_first size count) count in
+        let made : Cuts store t (send a) (done (emitted (length own))) own =
+        one_cut y (chunking_on (large t m) t.switches.chunking_enabled within y) (chunks_cut store p.handle c limit size count (size_within limit) cut any) in
         record {
-          plain = g.more;
-          chunks = chunk_run store p.handle c (from_first size count) count;
-          unchunked = g.each;
-          cut = one_cut (chunks_cut store p.handle c limit size count (size_within limit) cut any);
+          flushes = g.more;
+          own = own;
+          of_batch = g.each;
+          cut = emits_many a own _ (omega (arith, run_length store p.handle c (from_first size count) count)) made;
           holds = rw (append-nil took)
               (chunked_keeps store p took acc (all ++ g.more) g.holds x.well a size count any
               (omega (arith, x.waiting, r.frames)) (emptied q before m time e j) i cut);
@@ -223,18 +239,18 @@ module _ (store : List ℕ) (q : Queue) (took : List Frame) (acc : List Message)
         let room : q.out.waiting + one before ≤ 1024 = omega (arith, r.frames) in
         let g = h room in
         let x = f room in
-        plain_keeps store q (send a) took acc all _
-        (rw (append-nil took)
-        (grows_more g.more g.each
-        (record {
-          more = single_frame store p.handle (single_record p a) ∷ [];
-          each = (refl, tt);
-          holds = single_keeps store p took acc (all ++ g.more) g.holds x.well a
-              (omega (arith, x.waiting, r.frames)) (emptied q before m time e j) i;
-        }))))))
+        record {
+          flushes = g.more;
+          own = single_frame store p.handle (single_record p a) ∷ [];
+          of_batch = g.each;
+          cut = not_cut y (record { uncounted = refl; unchunked = refl; payload_is = refl });
+          holds = rw (append-nil took)
+              (single_keeps store p took acc (all ++ g.more) g.holds x.well a
+              (omega (arith, x.waiting, r.frames)) (emptied q before m time e j) i);
+        })))
 
   pub send_holds : (a : Sending) → Ranged (send a) → Covered store q (send a) → Keeps store q (send a) took acc all (queue_send (length store) a q)
   send_holds a is64 covered =
       send_cases (length store) a q (Keeps store q (send a) took acc all)
-      (λ n. plain_keeps store q (send a) took acc all _ (grows_none (still k)))
+      (λ n. plain_keeps store q (send a) took acc all _ tt (grows_none (still k)))
       (λ i b room. way_holds a i (sendable a b is64) covered (flushes_before q.settings a.message q.out.batch) refl room)

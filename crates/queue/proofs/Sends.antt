@@ -1,6 +1,6 @@
 -- What was taken and what waits reads as the messages so far, and then come those of the open batch: each push of a send keeps it.
 use Rattle.std.specs.Prelude.{Option}
-use Prim.Native.Nat.{ℕ, zero, suc, ◌≤◌}
+use Prim.Native.Nat.{ℕ, zero, suc, ◌+◌, ◌≤◌}
 use mathlib.Core.Path.{◌≡◌, refl, sym, ◌∙◌}
 use mathlib.Core.Bool.{Bool, true, false}
 use mathlib.Core.List.{List, [], ◌∷◌, ◌++◌, append_assoc, append-nil}
@@ -20,11 +20,11 @@ use Rattle.queue.specs.Queue.{Outgoing}
 use Rattle.queue.specs.Batch.{is_empty, single_of, grown, batch_record, with_batch}
 use Rattle.queue.specs.Send.{message_in}
 use Rattle.queue.specs.Frame.{Frame, single_frame}
-use Rattle.queue.specs.Chunks.{Unchunked}
+use Rattle.queue.specs.Chunks.{OfBatch}
 use Rattle.queue.specs.Message.{Message, message_of}
-use Rattle.queue.proofs.Sound.{appended, joined_to}
+use Rattle.queue.proofs.Sound.{Sound, appended, joined_to}
 use Rattle.queue.proofs.Reading.{ReadAs, read_more, read_single_lem, batch_messages, read_batch_frame, chunk_run, from_first, Cut, read_chunks}
-use Rattle.queue.proofs.Groups.{Group, single, batch, chunks, record_in, held_in, frames_in, Kept, Agrees, frames_all, map_snoc, all_snoc, held_snoc, frames_snoc, Stands}
+use Rattle.queue.proofs.Groups.{Group, single, batch, chunks, record_in, held_in, frames_in, Kept, Agrees, frames_all, map_snoc, all_snoc, held_snoc, frames_snoc, frames_count, Stands}
 use Rattle.types.specs.declared.txn.TxnId.{TxnId}
 
 -- `all` are the frames taken and waiting, which only grow at their end
@@ -64,6 +64,13 @@ module _ (store : List ℕ) (handle : ProducerHandle) (o : Outgoing) (took : Lis
   pub empty_open : o.batch.len ≡ 0 → k.opened ≡ []
   empty_open e = none_open k.opened (sym k.count ∙ e)
 
+  -- what was taken, and as many as wait
+  pub all_count : Sound o → length all ≡ length took + o.waiting
+  all_count w =
+      let waits : length (frames_all store handle k.groups) ≡ o.waiting =
+      rw (frames_count store handle k.groups k.stands.agrees, ← k.stands.frames, w.counted) in
+      rw (← k.frames, length-append, waits)
+
   -- a group at the end
   stands_more : (g : Group) (n : ℕ) (ms : List SingleMessage) → Agrees store g → held_in g ++ ms ≡ k.opened
       → Stands store (appended (record_in g) n o) (k.groups ++ g ∷ []) ms
@@ -80,7 +87,7 @@ module _ (store : List ℕ) (handle : ProducerHandle) (o : Outgoing) (took : Lis
 
   -- the open batch becomes a frame
   pub flush_holds : (t : ProducerSettings) (time : ℕ)
-      → Grows Unchunked store handle (with_batch empty_batch (appended (batch_record t time o.batch) 1 o)) took acc all
+      → Grows OfBatch store handle (with_batch empty_batch (appended (batch_record t time o.batch) 1 o)) took acc all
   flush_holds t time =
       let b = o.batch in
       let f : BatchFrame =
@@ -96,7 +103,7 @@ module _ (store : List ℕ) (handle : ProducerHandle) (o : Outgoing) (took : Lis
       let ms = batch_messages store b.txn_id k.opened in
       record {
         more = frames_in store handle g;
-        each = (refl, tt);
+        each = (record { count = b.len; counted = refl; unchunked = refl }, tt);
         holds = record {
           groups = k.groups ++ g ∷ [];
           opened = [];

@@ -11,8 +11,10 @@ pub mod Queries
 pub mod Message
 pub mod Run
 pub mod Read
+pub mod Emptied
 pub mod Order
 pub mod Reachable
 pub mod Chunks
 pub mod Restore
+pub mod Document
 pub mod Told

@@ -39,7 +39,7 @@ AllCovered store q (c ∷ cs) = Covered store q c × AllCovered store (step stor
 pub record Premises (store : List ℕ) (handle : ProducerHandle) (cs : List Call) : Type 0 where
   -- a message limit of at least 1 at every send; no drain, snapshot or replay that is carried out
   pub covered : AllCovered store (new_queue handle) cs
-  -- the batch is empty at the end
+  -- the batch is empty at the end: no message joined after the last flush that made a frame (`EmptiedRule`)
   pub emptied : is_empty (after store (new_queue handle) cs).out.batch ≡ true
   -- no premise of document 01: it only says that a number has its type's range
   pub ranged : AllRanged cs

@@ -1,6 +1,7 @@
 -- What holds of every queue that calls make from a new one, whatever the calls are, replays included: the numbers that are kept are those of
--- the lists, the lists fit their rings, and no push finds a full one.
-use Rattle.std.specs.Prelude.{ℕ, ◌+◌, ◌-◌, ◌≤◌, ◌≡◌, not, List, [], ◌∷◌, length, drop}
+-- the lists, the lists fit their rings, no push finds a full one, and the frames' numbers fit the protocol's types.
+use Rattle.std.specs.Prelude.{ℕ, ◌+◌, ◌-◌, ◌^◌, ◌≤◌, ◌<◌, ◌≡◌, not, List, [], ◌∷◌, length, drop, ℤ, pos, negsuc, None, Option, Some}
+use Rattle.wire.specs.Batch.{All}
 use Rattle.wire.specs.Length.{batch_length}
 use Rattle.types.specs.declared.frame.FrameRecord.{FrameRecord}
 use Rattle.types.specs.declared.frame.FrameKind.{FrameKind}
@@ -12,6 +13,8 @@ use Rattle.types.specs.declared.way.Way.TheVariants as way
 use Rattle.queue.specs.Queue.{Queue, Outgoing, done, new_queue}
 use Rattle.queue.specs.Batch.{flush_batch}
 use Rattle.queue.specs.Send.{one, joins, is_too_large, go, plan}
+use Rattle.queue.specs.Frame.{Frame}
+use Rattle.queue.specs.Take.{next_outbound_frame}
 use Rattle.queue.specs.Tables.{framed_of, unborne, replay_snapshots, replay_pending_outbound}
 use Rattle.queue.specs.Run.{Call, send, flush, take, receipt, send_error, timeouts, initial_id, set, set_name, close, query, drain, snapshot, replay, resend, AllRanged, after}
 
@@ -80,3 +83,37 @@ abbrev pub ReachableRule : Type 0
 ReachableRule =
     (store : List ℕ) (handle : ProducerHandle) (cs : List Call) → AllRanged cs
     → Reachable (after store (new_queue handle) cs) × ((c : Call) → FindsRoom store (after store (new_queue handle) cs) c)
+
+-- ── the numbers that PulsarApi.proto has as int32 ──
+
+abbrev pub Below31 : Option ℕ → Type 0
+Below31 None = Unit {0}
+Below31 (Some n) = n < 2 ^ 31
+
+-- all those of a command and its metadata that are answered unsigned; `uncompressed_size` is a uint32 there
+pub record FitsInt32 (f : Frame) : Type 0 where
+  pub num_messages : f.command.num_messages < 2 ^ 31
+  pub num_messages_in_batch : Below31 f.metadata.num_messages_in_batch
+  pub chunk_id : Below31 f.metadata.chunk_id
+  pub num_chunks : Below31 f.metadata.num_chunks
+  pub total_chunk_msg_size : Below31 f.metadata.total_chunk_msg_size
+
+-- no premise: it only says that a message count which a call brings, in a message or in an entry of a replay table, is an i32
+abbrev pub IsI32 : ℤ → Type 0
+IsI32 (pos n) = n < 2 ^ 31
+IsI32 (negsuc n) = n < 2 ^ 31
+
+abbrev pub Counted : Call → Type 0
+Counted (send a) = IsI32 a.message.num_messages
+Counted (replay entries) = All (λ op. IsI32 op.publish.message.num_messages) entries
+Counted c = Unit {0}
+
+abbrev pub AllCounted : List Call → Type 0
+AllCounted [] = Unit {0}
+AllCounted (c ∷ cs) = Counted c × AllCounted cs
+
+-- whatever a take is lent, and whatever was called before
+abbrev pub Int32Rule : Type 0
+Int32Rule =
+    (store : List ℕ) (handle : ProducerHandle) (cs : List Call) → AllCounted cs
+    → (lent : List ℕ) (room : ℕ) (f : Frame) → (next_outbound_frame lent room (after store (new_queue handle) cs)).1 ≡ done f → FitsInt32 f
