@@ -145,6 +145,11 @@ left_view s f (Some time) es p e k =
 
 -- ── the call ──
 
+-- the count that is answered is the planned one
+pub counted : (due : Option ℕ) (s : ProducerState) (ys : List OpSend) (m k : ℕ) (t : ProducerState) (zs : List OpSend)
+    → m ≡ k → Drains due s ys (Ok k) t zs → Drains due s ys (Ok m) t zs
+counted due s ys m k t zs e = subst (λ (n : ℕ). Drains due s ys (Ok n) t zs) (sym e)
+
 module _ (s : ProducerState) (due : Option ℕ) (es : List OpSend) (e : es ≡ (view s).pending)
     (ys : List OpSend) where
   -- a plan that goes through, and one that does not

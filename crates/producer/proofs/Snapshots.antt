@@ -79,6 +79,13 @@ Snaps s ds rs a t zs us =
     × (us ≡ replay_left (told_snapshot a zs us) rs)
     × Kept (told_snapshot a zs us) s t
 
+-- the counts that are answered are the planned ones
+pub counted : (s : ProducerState) (ds rs : List OpSend) (m k : Snapshot) (t : ProducerState) (zs us : List OpSend)
+    → m.dropped ≡ k.dropped → m.replay ≡ k.replay → Snaps s ds rs (Ok k) t zs us → Snaps s ds rs (Ok m) t zs us
+counted s ds rs m k t zs us d r =
+    let e : m ≡ k = λ j. record { dropped = d j; replay = r j } in
+    subst (λ (n : Snapshot). Snaps s ds rs (Ok n) t zs us) (sym e)
+
 snapshot_is : (ds rs : ℕ) (q : Queue) (b : Bool)
     → (leb (length (batched_of q.pending)) ds && leb (length (framed_of q.pending)) rs) ≡ b
     → snapshot_pending_sends ds rs q ≡ pick b (left_of q, done (handed (batched_of q.pending), handed (framed_of q.pending))) (q, refused 9 [])

@@ -317,6 +317,11 @@ module _ (s : ProducerState) (f : Full s) (d : FrameRecord) (at : ℕ) (q : at �
       × ((after ≡ written (told_frame store after a) before)
       × (OwnParts store (view s) (view s).out.frames a × Kept (told_frame store after a) s t))
 
+  -- the length that is answered is the planned one
+  counted : (store before after : List ℕ) (f : OutboundFrame) (n : ℕ) (t : ProducerState)
+      → n ≡ f.payload_len → Takes store before after (Ok f) t → Takes store before after (Ok (record f { payload_len = n })) t
+  counted store before after f n t e = subst (λ (m : ℕ). Takes store before after (Ok (record f { payload_len = m })) t) (sym e)
+
   -- the state with the plan's stores
   abbrev pub stored_as : TakePlan → ProducerState
   stored_as p = record s { core = p.core; outbound = set s.outbound at p.slot }
@@ -470,11 +475,12 @@ module _ (s : ProducerState) (f : Full s) (d : FrameRecord) (at : ℕ) (q : at �
         planned : Planned s.core front_of (held_count kind s.core.rings.held.len) answer p
         planned = ok_planned s.core front_of (held_count kind s.core.rings.held.len) answer p (sym planned_is ∙ t)
 
-        pub takes_done : (after : List ℕ) (x : ℕ) → Puts (payload_of store kind p.span (held_first count)) before after x
-            → Takes store before after (Ok p.frame) (stored_as p)
-        takes_done after x v =
-            subst (λ (q : TakePlan). Takes store before after (Ok q.frame) (stored_as q)) planned.same
-            (done_is p.span planned.goes after x (subst (λ (c : ℕ). Puts (payload_of store kind p.span (held_first c)) before after x) ce v))
+        pub takes_done : (after : List ℕ) (x n : ℕ) → n ≡ p.frame.payload_len → Puts (payload_of store kind p.span (held_first count)) before after x
+            → Takes store before after (Ok (record p.frame { payload_len = n })) (stored_as p)
+        takes_done after x n e v =
+            counted store before after p.frame n (stored_as p) e
+            (subst (λ (q : TakePlan). Takes store before after (Ok q.frame) (stored_as q)) planned.same
+            (done_is p.span planned.goes after x (subst (λ (c : ℕ). Puts (payload_of store kind p.span (held_first c)) before after x) ce v)))
 
         pub takes_writable : Writable store kind p.span (held_first count) before
         takes_writable = subst (λ (c : ℕ). Writable store kind p.span (held_first c) before) (sym ce) (writable_is p.span planned.goes)

@@ -3,7 +3,7 @@ use Rattle.std.proofs.Common.{ℕ, length, ◌∙◌, ap, sym, length-take-le, a
 use Rattle.std.proofs.lemmas.Result.{err_from_is_err_and}
 use Rattle.tables.specs.Drain.{handout_of}
 use Rattle.producer.proofs.Full.{Full}
-use Rattle.producer.proofs.Drains.{plan_fits, drains_short, drains_done}
+use Rattle.producer.proofs.Drains.{plan_fits, drains_short, drains_done, counted}
 use Rattle.producer.proofs.state.ProducerState.hand_out.Goals as goal
 
 pub slice_bounds-copy_entries-end : goal.slice_bounds-copy_entries-end
@@ -23,8 +23,9 @@ returns c =
     let s = c.args.self.now in
     let f : Full s = record { outbound = omega arith; held = omega arith; pending = omega arith; ids = omega arith; marks = omega arith } in
     let e = c.as_slice-entries.ensures ∙ c.entries-pending.ensures.same in
-    rw (c.after_drain-self.ensures, c.unmark_each.ensures)
-    (drains_done s c.args.due _ e c.args.table.now f c.in_ok-count.count (sym (c.in_ok-count.ensures ∙ ap (λ (k : ℕ). handout_of k (length c.args.table.now)) c.gone_count-many.ensures)) c.copy_entries.new.table c.copy_entries.ensures)
+    counted c.args.due s c.args.table.now _ c.in_ok-count.count _ _ (omega arith)
+    (rw (c.after_drain-self.ensures, c.unmark_each.ensures)
+    (drains_done s c.args.due _ e c.args.table.now f c.in_ok-count.count (sym (c.in_ok-count.ensures ∙ ap (λ (k : ℕ). handout_of k (length c.args.table.now)) c.gone_count-many.ensures)) c.copy_entries.new.table c.copy_entries.ensures))
 
 pub returns-in_err-count : goal.returns-in_err-count
 returns-in_err-count c =

@@ -30,7 +30,7 @@ returns c =
     let got = c.payload_span-span in
     let both =
     takes_done s f _ _ c.slot-at.ensures store before small short got.result count.result count.ensures got.ensures c.plan_take.result c.plan_take.ensures
-    c.in_ok-plan.plan c.in_ok-plan.was _ _ c.put_payload.ensures in
+    c.in_ok-plan.plan c.in_ok-plan.was _ _ _ (omega arith) c.put_payload.ensures in
     record { meets = both.0; buffer_after = both.1.0; own = both.1.1.0; kept = both.1.1.1 }
 
 pub returns-in_err-plan : goal.returns-in_err-plan
