@@ -1,28 +1,28 @@
 -- The cases that document 01 marks with a star: what the definitions compute, and what the document says.
-use Rattle.std.specs.Prelude.{ℕ, ◌-◌, ◌^◌, List, [], ◌∷◌, length, map, ℤ, pos, negsuc, None, Option, Some}
-use Rattle.std.specs.List.{sum_by, range_with_len}
+use Rattle.std.specs.Prelude.{ℕ, ◌-◌, ◌^◌, true, List, [], ◌∷◌, ◌++◌, length, map, replicate, ℤ, pos, negsuc, None, Option, Some}
 use Rattle.types.specs.Time.{deadline_with_clamp}
-use Rattle.types.specs.Ids.{of_receipt, before_next}
-use Rattle.types.specs.Empty.{empty_name}
-use Rattle.types.specs.declared.frame.ChunkedMessageContext.{ChunkedMessageContext}
-use Rattle.types.specs.declared.frame.FrameKind.{FrameKind}
-use Rattle.types.specs.declared.frame.FrameKind.TheVariants.{Single}
-use Rattle.types.specs.declared.frame.FrameRecord.{FrameRecord}
-use Rattle.types.specs.declared.message.OutgoingMessage.{OutgoingMessage}
-use Rattle.types.specs.declared.message.SingleMessage.{SingleMessage}
+use Rattle.types.specs.Ids.{of_receipt}
+use Rattle.types.specs.declared.batch.BatchContainer.{BatchContainer}
+use Rattle.types.specs.declared.settings.Setting.TheVariants.{MaxMessageSize, BatchingEnabled, ChunkingEnabled}
+use Rattle.types.specs.declared.stats.SequenceIds.{SequenceIds}
 use Rattle.types.specs.declared.types.MessageId.{MessageId}
-use Rattle.wire.specs.Batch.{batch_payload}
-use Rattle.queue.specs.Batch.{no_message, no_uuid, single_of}
-use Rattle.queue.specs.Send.{chunk_size, total_chunks}
-use Rattle.queue.specs.Frame.{Frame, batch_frame, chunk_frame, chunk_part}
+use Rattle.queue.specs.Queue.{Queue, Answer, done, new_queue}
+use Rattle.queue.specs.Ids.{set_initial_sequence_id}
+use Rattle.queue.specs.Batch.{no_message, no_uuid}
+use Rattle.queue.specs.Send.{Sending, Decision, emitted, queue_send}
+use Rattle.queue.specs.Frame.{Frame}
+use Rattle.queue.specs.Run.{Call, send, flush, take, initial_id, set, after, taken}
 
 pub data Value : Type 0 where
   number : ℕ → Value
-  signed : ℤ → Value
   message_id : MessageId → Value
-  bytes : List ℕ → Value
+  sequence_ids : SequenceIds → Value
+  answer : Answer Decision → Value
+  -- of frames: payloads and their lengths, sizes in the metadata, lowest and highest id
+  payloads : List (List ℕ) → Value
   lengths : List ℕ → Value
-  optional : Option ℕ → Value
+  sizes : List (Option ℕ) → Value
+  id_ranges : List (ℕ × Option ℕ) → Value
 
 pub record Row : Type 0 where
   pub computed : Value
@@ -37,66 +37,101 @@ id ledger entry partition index size =
     message_id
     (record { ledger_id = ledger; entry_id = entry; partition = partition; batch_index = index; batch_size = size })
 
+-- (next id, pushed number, published number)
+abbrev ids : ℕ → ℤ → ℤ → Value
+ids next pushed published =
+    sequence_ids
+    (record { next_sequence_id = next; last_sequence_id_pushed = pushed; last_sequence_id_published = published })
+
 abbrev minus_one : ℤ
 minus_one = negsuc 0
+
+-- ── calls on a new producer ──
+
+abbrev fresh : Queue
+fresh = new_queue (record { 0 = 7 })
+
+-- a send of the first bytes of the store, with nothing else set
+abbrev sending : ℕ → Sending
+sending len =
+    record {
+      message = record {
+        payload = record { start = 0; len = len };
+        partition_key = no_message.partition_key;
+        ordering_key = no_message.ordering_key;
+        schema_version = no_message.schema_version;
+        producer_name = no_message.producer_name;
+        event_time = no_message.event_time;
+        null_value = no_message.null_value;
+        null_partition_key = no_message.null_partition_key;
+        deliver_at_time = no_message.deliver_at_time;
+        compression = no_message.compression;
+        uncompressed_size = 0;
+        num_messages = pos 1;
+        txn_id = no_message.txn_id;
+        source_message_id = no_message.source_message_id;
+      };
+      reserved = 0;
+      uuid = no_uuid;
+      publish_time = 0;
+      now = 0;
+    }
+
+-- the frames that calls make: three takes into long enough buffers, one more than any case has frames
+abbrev frames : List ℕ → List Call → List Frame
+frames store calls = taken store fresh (calls ++ replicate 3 (take 8192))
 
 -- the message `quote`, in a store of its bytes
 abbrev quote : List ℕ
 quote = 0x71 ∷ 0x75 ∷ 0x6f ∷ 0x74 ∷ 0x65 ∷ []
 
-abbrev message : ℕ → OutgoingMessage
-message len =
-    record {
-      payload = record { start = 0; len = len };
-      partition_key = no_message.partition_key;
-      ordering_key = no_message.ordering_key;
-      schema_version = no_message.schema_version;
-      producer_name = no_message.producer_name;
-      event_time = no_message.event_time;
-      null_value = no_message.null_value;
-      null_partition_key = no_message.null_partition_key;
-      deliver_at_time = no_message.deliver_at_time;
-      compression = no_message.compression;
-      uncompressed_size = 0;
-      num_messages = pos 1;
-      txn_id = no_message.txn_id;
-      source_message_id = no_message.source_message_id;
-    }
+-- n sends of `quote` that join, under ids from this one on: the batch that is then open, and the frames once it is flushed
+module _ (first n : ℕ) where
+  abbrev joining : List Call
+  joining = initial_id first ∷ set (BatchingEnabled true) ∷ replicate n (send (sending 5))
 
-abbrev quoted : SingleMessage
-quoted = single_of (message 5)
+  abbrev open_batch : BatchContainer
+  open_batch = (after quote fresh joining).out.batch
 
--- a waiting record under an id
-abbrev record_of : ℕ → FrameKind → OutgoingMessage → FrameRecord
-record_of id kind m =
-    record { sequence_id = record { 0 = id }; publish_time = 0; producer_name = empty_name; uuid = no_uuid; message = m; kind = kind }
+  abbrev batch_frames : List Frame
+  batch_frames = frames quote (joining ++ flush 0 ∷ [])
 
--- the frame of a batch of these messages, between two ids
-abbrev batch_of : ℕ → ℕ → List SingleMessage → Frame
-batch_of lowest highest ms =
-    batch_frame quote (record { 0 = 7 }) (record_of lowest Single no_message)
-    (record {
-      num_messages = length ms;
-      current_size_bytes = sum_by (λ (m : SingleMessage). m.payload.len) ms;
-      highest_sequence_id = record { 0 = highest };
-      txn_id = no_message.txn_id;
-    })
-    ms
+-- a send of `len` bytes under a limit, with chunking on: its answer, and the frames
+module _ (limit len : ℕ) where
+  abbrev store : List ℕ
+  store = replicate len 0
 
--- how a message of a length is cut under a limit, and its k-th chunk
-abbrev cut : ℕ → ℕ → ℕ → ChunkedMessageContext
-cut limit len k =
-    record { total_chunks = total_chunks len (chunk_size limit); next_chunk = k; max_chunk_size = chunk_size limit }
+  abbrev chunking : List Call
+  chunking = set (ChunkingEnabled true) ∷ set (MaxMessageSize limit) ∷ []
 
-abbrev chunk_of : ℕ → ℕ → ℕ → Frame
-chunk_of limit len k = chunk_frame [] (record { 0 = 7 }) (record_of 0 Single (message len)) (cut limit len k)
+  abbrev chunk_answer : Answer Decision
+  chunk_answer = (queue_send len (sending len) (after store fresh chunking)).1
 
--- the lengths of its chunks
-abbrev chunk_lengths : ℕ → ℕ → List ℕ
-chunk_lengths limit len =
-    map
-    (λ k. (chunk_part (record_of 0 Single (message len)) (cut limit len k)).len)
-    (range_with_len 0 (total_chunks len (chunk_size limit)))
+  abbrev chunk_frames : List Frame
+  chunk_frames = frames store (chunking ++ send (sending len) ∷ [])
+
+-- ── what is seen of them ──
+
+abbrev payloads_of : List Frame → Value
+payloads_of fs = payloads (map (λ f. f.payload) fs)
+
+abbrev lengths_of : List Frame → Value
+lengths_of fs = lengths (map (λ f. length f.payload) fs)
+
+abbrev uncompressed_sizes : List Frame → Value
+uncompressed_sizes fs = sizes (map (λ f. f.metadata.uncompressed_size) fs)
+
+abbrev total_sizes : List Frame → Value
+total_sizes fs = sizes (map (λ f. f.metadata.total_chunk_msg_size) fs)
+
+abbrev batch_ids : BatchContainer → Value
+batch_ids b = id_ranges ((b.lowest_sequence_id.0, Some b.highest_sequence_id.0) ∷ [])
+
+abbrev command_ids : List Frame → Value
+command_ids fs = id_ranges (map (λ f. (f.command.sequence_id.0, f.command.highest_sequence_id)) fs)
+
+abbrev metadata_ids : List Frame → Value
+metadata_ids fs = id_ranges (map (λ f. (f.metadata.sequence_id.0, f.metadata.highest_sequence_id)) fs)
 
 abbrev pub rows : List Row
 rows =
@@ -116,21 +151,28 @@ rows =
     -- I2
     ∷ row (message_id (of_receipt None)) (id 0 0 minus_one minus_one (pos 0))
     -- S1
-    ∷ row (signed (before_next 1)) (signed (pos 0))
+    ∷ row (sequence_ids (set_initial_sequence_id 1 fresh).ids) (ids 1 (pos 0) (pos 0))
     -- S2: -2^63
-    ∷ row (signed (before_next (2 ^ 63))) (signed (negsuc (2 ^ 63 - 1)))
+    ∷ row
+    (sequence_ids (set_initial_sequence_id (2 ^ 63) fresh).ids)
+    (ids (2 ^ 63) (negsuc (2 ^ 63 - 1)) (negsuc (2 ^ 63 - 1)))
     -- S3: -2
-    ∷ row (signed (before_next (2 ^ 64 - 1))) (signed (negsuc 1))
-    -- B1: one message `quote`; its bytes, and the size in its frame's metadata
-    ∷ row (bytes (batch_payload quote (quoted ∷ []))) (bytes (0x00 ∷ 0x00 ∷ 0x00 ∷ 0x02 ∷ 0x18 ∷ 0x05 ∷ quote))
-    ∷ row (optional (batch_of 0 0 (quoted ∷ [])).metadata.uncompressed_size) (optional (Some 5))
-    -- B2: no highest id
-    ∷ row (optional (batch_of (2 ^ 64 - 1) 0 []).metadata.highest_sequence_id) (optional None)
-    -- C1
-    ∷ row (lengths (chunk_lengths 4096 4097)) (lengths (4096 ∷ 1 ∷ []))
+    ∷ row (sequence_ids (set_initial_sequence_id (2 ^ 64 - 1) fresh).ids) (ids (2 ^ 64 - 1) (negsuc 1) (negsuc 1))
+    -- B1: the frame's bytes, and the size in its metadata
+    ∷ row (payloads_of (batch_frames 0 1)) (payloads ((0x00 ∷ 0x00 ∷ 0x00 ∷ 0x02 ∷ 0x18 ∷ 0x05 ∷ quote) ∷ []))
+    ∷ row (uncompressed_sizes (batch_frames 0 1)) (sizes (Some 5 ∷ []))
+    -- B2: the batch has both ids, its frame no highest one, in command and metadata
+    ∷ row (batch_ids (open_batch (2 ^ 64 - 1) 2)) (id_ranges ((2 ^ 64 - 1, Some 0) ∷ []))
+    ∷ row (command_ids (batch_frames (2 ^ 64 - 1) 2)) (id_ranges ((2 ^ 64 - 1, None) ∷ []))
+    ∷ row (metadata_ids (batch_frames (2 ^ 64 - 1) 2)) (id_ranges ((2 ^ 64 - 1, None) ∷ []))
+    -- C1: the send's answer, and its chunks
+    ∷ row (answer (chunk_answer 4096 4097)) (answer (done (emitted 2)))
+    ∷ row (lengths_of (chunk_frames 4096 4097)) (lengths (4096 ∷ 1 ∷ []))
     -- C2
-    ∷ row (lengths (chunk_lengths 4097 4098)) (lengths (3073 ∷ 1025 ∷ []))
-    -- C3: one chunk, empty, and the total size of its frame
-    ∷ row (lengths (chunk_lengths 0 3)) (lengths (0 ∷ []))
-    ∷ row (optional (chunk_of 0 3 0).metadata.total_chunk_msg_size) (optional (Some 3))
+    ∷ row (answer (chunk_answer 4097 4098)) (answer (done (emitted 2)))
+    ∷ row (lengths_of (chunk_frames 4097 4098)) (lengths (3073 ∷ 1025 ∷ []))
+    -- C3: one chunk, empty, and its total size
+    ∷ row (answer (chunk_answer 0 3)) (answer (done (emitted 1)))
+    ∷ row (lengths_of (chunk_frames 0 3)) (lengths (0 ∷ []))
+    ∷ row (total_sizes (chunk_frames 0 3)) (sizes (Some 3 ∷ []))
     ∷ []
