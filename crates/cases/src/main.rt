@@ -1,5 +1,5 @@
 // The cases of document 01, executed: each line is a case's name and what the code answers. The file `stdout` has the
-// answers of the document. The cases that it marks with a star are proved besides, in specs/Rows.antt.
+// answers of the document. The cases that it marks with a star are proved besides, in specs/Rows.antt of crate `queue`.
 #![tactic(auto)]
 
 mod sends;

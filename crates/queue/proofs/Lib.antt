@@ -17,3 +17,4 @@ pub mod Document
 pub mod Example
 pub mod Emptied
 pub mod Restore
+pub mod Rows

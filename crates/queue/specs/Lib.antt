@@ -18,3 +18,4 @@ pub mod Chunks
 pub mod Restore
 pub mod Document
 pub mod Told
+pub mod Rows

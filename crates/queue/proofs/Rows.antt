@@ -10,7 +10,7 @@ use Rattle.queue.specs.Batch.{can_add_to_batch, flushed, flush_batch}
 use Rattle.queue.specs.Send.{flushes_before, plan, follow, add_to_batch, emit_chunked, queue_send}
 use Rattle.queue.specs.Take.{next_outbound_frame}
 use Rattle.queue.specs.Run.{after, taken}
-use Rattle.cases.specs.Rows.{Row, rows}
+use Rattle.queue.specs.Rows.{Row, rows}
 
 pub rows_hold : map (λ (r : Row). r.computed) rows ≡ map (λ (r : Row). r.expected) rows
 unfolding after taken set_initial_sequence_id settings.set queue_send plan flushes_before can_add_to_batch follow add_to_batch emit_chunked flush_batch flushed next_outbound_frame items item single varint_field bytes_field key varint varint_by be32
