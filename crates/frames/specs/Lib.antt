@@ -1,5 +1,4 @@
 pub mod Span
-pub mod Payload
 pub mod Answer
 pub mod Outbound
 pub mod After

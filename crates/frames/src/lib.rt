@@ -6,5 +6,4 @@ pub mod answer;
 pub mod held;
 pub mod inside;
 pub mod outbound;
-pub mod payload;
 pub mod span;

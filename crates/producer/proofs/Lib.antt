@@ -11,6 +11,7 @@ pub mod Listed
 pub mod Locate
 pub mod Marks
 pub mod Meets
+pub mod Payload
 pub mod Plans
 pub mod Queries
 pub mod Receipts

@@ -29,7 +29,7 @@ use Rattle.queue.specs.Frame.{Frame, first_frame, frame_in, borne_in, chunk_part
 use Rattle.queue.specs.Take.{with_kind, next_chunk, rest_of, holds, taken, take_from, next_outbound_frame, written}
 use Rattle.queue.specs.Told.{Kept}
 use Rattle.frames.specs.Span.{name_in, borne, span_of, is_batch, held_count}
-use Rattle.frames.specs.Payload.{payload_of, Writable}
+use Rattle.producer.proofs.Payload.{payload_of, Writable}
 use Rattle.frames.specs.Answer.{fitting, answer_of}
 use Rattle.frames.specs.Outbound.{present_if, frame_out}
 use Rattle.frames.specs.After.{has_next, stays_of, record_after}

@@ -10,11 +10,11 @@ ghost use Rattle.producer.specs.View.{view};
 use crate::answer::Answered;
 use crate::state::ProducerState;
 use frames::held::Held;
-use frames::payload::put_payload;
-use frames::span::{held_count, payload_span};
+use frames::span::{held_count, is_batch, payload_span};
 use rules::rings::Ring;
 use types::error::ProducerError;
 use types::outbound::OutboundFrame;
+use wire::copy::copy;
 
 impl ProducerState {
     // Hands out the front frame, with its payload at the start of `buffer`, and moves the state in place.
@@ -41,7 +41,14 @@ impl ProducerState {
         };
         let span = payload_span(front, held, store.len());
         let plan = self.core.plan_take(front, span, count, buffer.len())?;
-        put_payload(buffer, store, front.kind, plan.span, held);
+        if is_batch(front.kind) {
+            held.put(buffer, store);
+        } else {
+            copy(
+                buffer,
+                &store[plan.span.start..plan.span.start + plan.span.len],
+            );
+        }
         self.outbound[at] = plan.slot;
         self.core = plan.core;
         Ok(plan.frame)
