@@ -6,9 +6,10 @@ use Rattle.queue.specs.Frame.{Frame}
 use Rattle.queue.specs.Message.{Message}
 use Rattle.queue.specs.Run.{Call, Gives, step, after, taken, accepted, frame_of, accepted_by, Waiting}
 use Rattle.queue.specs.Read.{read}
-use Rattle.queue.proofs.Order.{order_rule}
+use Rattle.types.specs.declared.types.ProducerHandle.{ProducerHandle}
+use Rattle.queue.proofs.Order.{order_rule, chunk_rule}
 use Rattle.producer.specs.View.{view}
-use Rattle.producer.specs.Runs.{Run, end, call, CodeInOrder}
+use Rattle.producer.specs.Runs.{Run, end, call, RunOfNew, CodeInOrder, CodeSameFrames, CodeInChunks}
 use Rattle.producer.specs.declared.state.ProducerState.{ProducerState}
 
 -- what the definitions say of a run from this queue
@@ -31,10 +32,29 @@ as_run store {s = s} {u = u} (call {t = t} {c = c} {cs = cs} {fs = fs} {ms = ms}
       messages = λ j. accepted_by store c (told j) ++ later.messages j;
     }
 
+pub of_new : {store : List ℕ} {handle : ProducerHandle} {cs : List Call} {u : ProducerState} {fs : List Frame} {ms : List Message}
+    → RunOfNew store handle cs u fs ms → AsRun store (new_queue handle) cs u fs ms
+of_new {store} {handle} {cs} {u} {fs} {ms} r = subst (λ (q : Queue). AsRun store q cs u fs ms) r.new (as_run store r.run)
+
+-- what waits is said of the view
+pub as_waiting : {store : List ℕ} {q : Queue} {cs : List Call} {u : ProducerState} {fs waiting : List Frame} {ms : List Message}
+    → AsRun store q cs u fs ms → Waiting store (view u) waiting → Waiting store (after store q cs) waiting
+as_waiting {store} {waiting = waiting} r w = subst (λ (q : Queue). Waiting store q waiting) r.state w
+
 pub code_in_order : CodeInOrder
-code_in_order store handle cs s u frames waiting messages new run premises waits =
-    let r : AsRun store (new_queue handle) cs u frames messages =
-    subst (λ (q : Queue). AsRun store q cs u frames messages) new (as_run store run) in
+code_in_order store handle cs u frames waiting messages run premises waits =
+    let r = of_new run in
     let o = order_rule store handle cs premises in
-    let w : waiting ≡ o.waiting = o.only waiting (subst (λ (q : Queue). Waiting store q waiting) r.state waits) in
+    let w = o.only waiting (as_waiting r waits) in
     (λ j. read (r.frames j ++ w j)) ∙ o.reads ∙ ap Some (sym r.messages)
+
+pub code_same_frames : CodeSameFrames
+code_same_frames store₁ store₂ handle₁ handle₂ cs₁ cs₂ u₁ u₂ frames₁ frames₂ waiting₁ waiting₂ messages₁ messages₂ run₁ run₂ p₁ p₂ w₁ w₂ e =
+    let r₁ = code_in_order store₁ handle₁ cs₁ u₁ frames₁ waiting₁ messages₁ run₁ p₁ w₁ in
+    let r₂ = code_in_order store₂ handle₂ cs₂ u₂ frames₂ waiting₂ messages₂ run₂ p₂ w₂ in
+    cc (ap read e)
+
+pub code_in_chunks : CodeInChunks
+code_in_chunks store handle cs u frames waiting messages run is64 covered waits =
+    let r = of_new run in
+    rw r.frames (chunk_rule store handle cs waiting is64 covered (as_waiting r waits))

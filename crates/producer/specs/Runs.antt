@@ -1,12 +1,13 @@
--- Runs of the code: states and answers, each call meeting its method's contract; and the order rule for them.
+-- Runs of the code: states and answers, each call meeting its method's contract; and the order rule and its corollaries for them.
 use Rattle.std.specs.Prelude.{◌≡◌, ℕ, List, [], ◌∷◌, ◌++◌, Some}
 use Rattle.types.specs.declared.types.ProducerHandle.{ProducerHandle}
 use Rattle.queue.specs.Queue.{Answer, new_queue}
 use Rattle.queue.specs.Frame.{Frame}
 use Rattle.queue.specs.Message.{Message}
-use Rattle.queue.specs.Run.{Call, Gives, frame_of, accepted_by, Waiting}
+use Rattle.queue.specs.Run.{Call, Gives, frame_of, accepted_by, Waiting, AllRanged}
 use Rattle.queue.specs.Read.{read}
-use Rattle.queue.specs.Order.{Premises}
+use Rattle.queue.specs.Order.{AllCovered, Premises}
+use Rattle.queue.specs.Chunks.{CallByCall}
 use Rattle.producer.specs.Meets.{Meets}
 use Rattle.producer.specs.View.{view}
 use Rattle.producer.specs.declared.state.ProducerState.{ProducerState}
@@ -20,12 +21,42 @@ pub data Run (store : List ℕ) : ProducerState → List Call → ProducerState 
       → Run store t cs u fs ms
       → Run store s (c ∷ cs) u (frame_of c answer ++ fs) (accepted_by store c answer ++ ms)
 
--- from a new producer: the frames taken and then those that wait read back as exactly the accepted messages, in order
+-- a run from a new producer, by what `ProducerState::new` promises
+pub record RunOfNew (store : List ℕ) (handle : ProducerHandle) (cs : List Call) (u : ProducerState) (frames : List Frame) (messages : List Message) : Type 0 where
+  pub first : ProducerState
+  pub new : view first ≡ new_queue handle
+  pub run : Run store first cs u frames messages
+
+-- the frames taken and then those that wait read back as exactly the accepted messages, in order
 abbrev pub CodeInOrder : Type 0
 CodeInOrder =
-    (store : List ℕ) (handle : ProducerHandle) (cs : List Call) (s u : ProducerState) (frames waiting : List Frame) (messages : List Message)
-    → view s ≡ new_queue handle
-    → Run store s cs u frames messages
+    (store : List ℕ) (handle : ProducerHandle) (cs : List Call) (u : ProducerState) (frames waiting : List Frame) (messages : List Message)
+    → RunOfNew store handle cs u frames messages
     → Premises store handle cs
     → Waiting store (view u) waiting
     → read (frames ++ waiting) ≡ Some messages
+
+-- two runs, of any two producers and stores, with the same frames: they accepted the same messages
+abbrev pub CodeSameFrames : Type 0
+CodeSameFrames =
+    (store₁ store₂ : List ℕ) (handle₁ handle₂ : ProducerHandle) (cs₁ cs₂ : List Call) (u₁ u₂ : ProducerState)
+    (frames₁ frames₂ waiting₁ waiting₂ : List Frame) (messages₁ messages₂ : List Message)
+    → RunOfNew store₁ handle₁ cs₁ u₁ frames₁ messages₁
+    → RunOfNew store₂ handle₂ cs₂ u₂ frames₂ messages₂
+    → Premises store₁ handle₁ cs₁
+    → Premises store₂ handle₂ cs₂
+    → Waiting store₁ (view u₁) waiting₁
+    → Waiting store₂ (view u₂) waiting₂
+    → frames₁ ++ waiting₁ ≡ frames₂ ++ waiting₂
+    → messages₁ ≡ messages₂
+
+-- the frames taken and then those that wait are, call by call, what the calls made; the queue that a call finds there is the view of the state
+-- that it finds, and the answer is the code's own
+abbrev pub CodeInChunks : Type 0
+CodeInChunks =
+    (store : List ℕ) (handle : ProducerHandle) (cs : List Call) (u : ProducerState) (frames waiting : List Frame) (messages : List Message)
+    → RunOfNew store handle cs u frames messages
+    → AllRanged cs
+    → AllCovered store (new_queue handle) cs
+    → Waiting store (view u) waiting
+    → CallByCall store (new_queue handle) cs (frames ++ waiting)

@@ -1,0 +1,2 @@
+pub mod ReadsBack
+pub mod Ranges
