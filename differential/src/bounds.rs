@@ -135,7 +135,7 @@ pub fn send(standing: &Standing, send: &Send, store: u64) -> Option<u8> {
     if !parts(message).all(|part| part.ends_inside(store)) {
         return Some(2);
     }
-    if passes_bounds(message) || send.reserved > RESERVATION {
+    if passes_bounds(message, send.reserved) {
         return Some(3);
     }
     let plan = plan(standing, message);
@@ -158,11 +158,12 @@ fn parts(message: &Message) -> impl Iterator<Item = Part> {
         .chain(message.keys())
 }
 
-/// The bounds of 3 but for the reservation's.
-fn passes_bounds(message: &Message) -> bool {
+/// The bounds of 3, the reservation's included.
+fn passes_bounds(message: &Message, reserved: u64) -> bool {
     message.payload.length > BYTES
         || message.keys().any(|key| key.length > KEY)
         || message.name.length > NAME
+        || reserved > RESERVATION
 }
 
 /// `flush_batch`: 4 only, and only if it makes a frame.
@@ -185,18 +186,11 @@ pub fn table(lent: u32, written: usize) -> Option<u8> {
     ((lent as usize) < written).then_some(9)
 }
 
-/// 12 for one entry, decision 15.
+/// 12 for one entry: a chunked one's count, and the bounds of 3 for all kinds.
 fn malformed(entry: &TableEntry) -> bool {
-    let count = u64::from(entry.chunk_count);
-    entry.reserved > RESERVATION
-        || match entry.kind {
-            Kind::Batched => false,
-            Kind::Single => passes_bounds(&entry.message),
-            Kind::Chunked => {
-                passes_bounds(&entry.message)
-                    || count != chunk_count(entry.message.payload.length, entry.chunk_size.into())
-            }
-        }
+    let count = chunk_count(entry.message.payload.length, entry.chunk_size.into());
+    let wrong_count = entry.kind == Kind::Chunked && u64::from(entry.chunk_count) != count;
+    wrong_count || passes_bounds(&entry.message, entry.reserved)
 }
 
 /// The frames that replaying an entry pushes.

@@ -1,6 +1,6 @@
 -- The pending entries stay sound: no call but a send or a replay makes them more, and each is one that 12 takes.
 use Prim.Native.Nat.{ℕ, zero, suc, ◌≤◌, ◌<◌}
-use mathlib.Core.Path.{◌≡◌, refl, sym, ap, subst}
+use mathlib.Core.Path.{◌≡◌, refl, sym}
 use mathlib.Core.Bool.{true}
 use mathlib.Core.List.{List, [], ◌∷◌, ◌++◌, map}
 use native.Mathlib.Omega.{arith}
@@ -9,14 +9,13 @@ use lib.Dec.{eqb}
 use borrow.Author.Tests.{eqb-true}
 use Rattle.laws.specs.Choice.{pick}
 use Rattle.types.specs.declared.entry.OpSend.{OpSend}
-use Rattle.types.specs.declared.entry.Publish.{Publish}
 use Rattle.types.specs.declared.entry.Replay.{Replay}
 use Rattle.types.specs.declared.entry.Replay.TheVariants as replay
 use Rattle.types.specs.declared.frame.FrameRecord.{FrameRecord}
 use Rattle.wire.specs.Batch.{All}
-use Rattle.queue.specs.Send.{total_chunks, within_bounds}
+use Rattle.queue.specs.Send.{total_chunks}
 use Rattle.queue.specs.Settle.{bears, unmark, without, settled, unmark_all}
-use Rattle.queue.specs.Tables.{is_batched, framed_of, again, frames_for, well_formed_as, all_well_formed, mark, borne, unborne}
+use Rattle.queue.specs.Tables.{is_batched, framed_of, again, frames_for, has_chunk_count, well_formed, all_well_formed, mark, borne, unborne}
 use Rattle.queue.specs.Reachable.{left_all}
 use Rattle.laws.proofs.Choice.{pick_ind, and_left, and_right}
 use Rattle.queue.proofs.Sound.{EachWaits, held_by}
@@ -32,7 +31,7 @@ SomeFrame (replay.Chunked count size) = 1 ≤ count
 
 -- 12 takes the entry
 abbrev pub Formed : OpSend → Type 0
-Formed op = well_formed_as op op.publish.replay ≡ true
+Formed op = well_formed op ≡ true
 
 abbrev pub EachFormed : List OpSend → Type 0
 EachFormed l = All Formed l
@@ -104,15 +103,8 @@ module _ {P : OpSend → Type 0} (by : ByPublish P) where
   marked_all l = (map_fewer mark (λ x. refl) l).kept
 
 -- 12 does not look at the mark
-formed_as : (op p : OpSend) (r : Replay) → op.publish ≡ p.publish → well_formed_as op r ≡ true → well_formed_as p r ≡ true
-formed_as op p replay.Batched e h = rw e at h
-formed_as op p replay.Single e h = rw e at h
-formed_as op p (replay.Chunked count size) e h = rw e at h
-
 pub same_formed : ByPublish Formed
-same_formed op p e h =
-    let r : op.publish.replay ≡ p.publish.replay = ap (λ (x : Publish). x.replay) e in
-    subst (λ (x : Replay). well_formed_as p x ≡ true) r (formed_as op p op.publish.replay e h)
+same_formed op p e h = rw e at h
 
 fewer_entries : {a b : List OpSend} → Fewer Formed a b → Entries b → Entries a
 fewer_entries d k = record { few = omega (arith, d.fewer, k.few); formed = d.kept k.formed }
@@ -131,18 +123,15 @@ one_more l op k room formed =
 
 -- ── what a replay pushes ──
 
-well_formed : (op : OpSend) (r : Replay) → well_formed_as op r ≡ true → SomeFrame r
-well_formed op replay.Batched h = tt
-well_formed op replay.Single h = tt
-well_formed op (replay.Chunked count size) h =
-    let n = total_chunks op.publish.message.payload.len size in
-    let e : count ≡ n = eqb-true count n (and_right (within_bounds op.publish.message op.publish.reservation.bytes) (eqb count n) h) in
-    rw e (some_chunk op.publish.message.payload.len size)
+some_frame : (len : ℕ) (r : Replay) → has_chunk_count len r ≡ true → SomeFrame r
+some_frame len replay.Batched h = tt
+some_frame len replay.Single h = tt
+some_frame len (replay.Chunked count size) h = rw (eqb-true count (total_chunks len size) h) (some_chunk len size)
 
 pub all_well_formed_lem : (l : List OpSend) → all_well_formed l ≡ true → EachFormed l
 all_well_formed_lem [] h = tt
 all_well_formed_lem (op ∷ l) h =
-    let a = well_formed_as op op.publish.replay in
+    let a = well_formed op in
     (and_left a (all_well_formed l) h, all_well_formed_lem l (and_right a (all_well_formed l) h))
 
 pub formed_all : (l : List OpSend) → EachFormed l → all_well_formed l ≡ true
@@ -171,7 +160,7 @@ pub record Again (l : List OpSend) (rs : List FrameRecord) : Type 0 where
 
 pub again_all : (l : List OpSend) → EachFormed l → Again l (map again (framed_of l))
 again_all [] h = record { counted = refl; each = tt; held = refl }
-again_all (op ∷ l) h = go op.publish.replay refl (well_formed op op.publish.replay h.0) (again_all l h.1)
+again_all (op ∷ l) h = go op.publish.replay refl (some_frame op.publish.message.payload.len op.publish.replay (and_left _ _ h.0)) (again_all l h.1)
   where
     go : (r : Replay) → op.publish.replay ≡ r → SomeFrame r → Again l (map again (framed_of l))
         → Again (op ∷ l) (map again (pick (is_batched op.publish.replay) (framed_of l) (op ∷ framed_of l)))

@@ -34,11 +34,11 @@ use Rattle.queue.specs.Queue.{Queue, Outcome, done, new_queue, with_pending, wit
 use Rattle.queue.specs.Settings as settings
 use Rattle.queue.specs.Ids.{published, set_initial_sequence_id}
 use Rattle.queue.specs.Batch.{at_least_one, can_add_to_batch, batchable, may_join, is_empty, too_many, flushed, flush_batch}
-use Rattle.queue.specs.Send.{Sending, large, total_chunks, way_into, left_of, flushes_before, add_to_batch, emit_single, emit_chunked, flush_if, follow, within_bounds}
+use Rattle.queue.specs.Send.{Sending, large, total_chunks, way_into, left_of, flushes_before, add_to_batch, emit_single, emit_chunked, flush_if, follow}
 use Rattle.queue.specs.Frame.{Frame, first_frame, frame_in}
 use Rattle.queue.specs.Take.{rest_of, take_from, next_outbound_frame}
 use Rattle.queue.specs.Settle.{Handed, settled, settle, answerable, found, apply_receipt, apply_send_error, due_count, drain_timed_out_sends}
-use Rattle.queue.specs.Tables.{drain_pending_sends, batched_of, framed_of, snapshot_pending_sends, well_formed_as, all_well_formed, kind_again, again, frames_for, fronted, replay_snapshots, unborne, replay_pending_outbound}
+use Rattle.queue.specs.Tables.{drain_pending_sends, batched_of, framed_of, snapshot_pending_sends, has_chunk_count, all_well_formed, kind_again, again, frames_for, fronted, replay_snapshots, unborne, replay_pending_outbound}
 use Rattle.queue.specs.Run.{Call, send, flush, take, receipt, send_error, timeouts, initial_id, set, set_name, close, query, drain, snapshot, replay, resend, step, after}
 use Rattle.queue.specs.Reachable.{FitsInt32, IsI32, Counted, AllCounted, Int32Rule}
 use Rattle.laws.proofs.Choice.{pick_ind, differ, and_left, and_right}
@@ -213,19 +213,20 @@ rest_fits r (Chunked c) rs h k =
     (λ e. k)
 
 -- an entry that 12 takes
-entry_fits : (op : OpSend) (r : Replay) → well_formed_as op r ≡ true → IsI32 op.publish.message.num_messages → FitsAs op.publish.message (kind_again r)
-entry_fits op replays.Batched h is32 = is32
-entry_fits op replays.Single h is32 = is32
-entry_fits op (replays.Chunked count size) h is32 =
-    let p = op.publish in
-    let n = total_chunks p.message.payload.len size in
-    let short = payload_within p.message p.reservation.bytes (and_left _ _ h) in
-    let e : count ≡ n = eqb-true count n (and_right (within_bounds p.message p.reservation.bytes) _ h) in
-    (rw e (chunks_fit p.message.payload.len size), omega arith, omega arith)
+entry_fits : (m : OutgoingMessage) (r : Replay) → has_chunk_count m.payload.len r ≡ true → m.payload.len ≤ 16777216 → IsI32 m.num_messages
+    → FitsAs m (kind_again r)
+entry_fits m replays.Batched h short is32 = is32
+entry_fits m replays.Single h short is32 = is32
+entry_fits m (replays.Chunked count size) h short is32 =
+    let e : count ≡ total_chunks m.payload.len size = eqb-true count (total_chunks m.payload.len size) h in
+    (rw e (chunks_fit m.payload.len size), omega arith, omega (arith, short))
 
 entries_fit : (l : List OpSend) → EachFormed l → All (λ op. IsI32 op.publish.message.num_messages) l → All FitsEntry l
 entries_fit [] h k = tt
-entries_fit (op ∷ l) h k = (entry_fits op op.publish.replay h.0 k.0, entries_fit l h.1 k.1)
+entries_fit (op ∷ l) h k =
+    let p = op.publish in
+    let short = payload_within p.message p.reservation.bytes (and_right _ _ h.0) in
+    (entry_fits p.message p.replay (and_left _ _ h.0) short k.0, entries_fit l h.1 k.1)
 
 module _ (store : List ℕ) (q : Queue) (k : Fits q) where
   take_fits : (room : ℕ) (rs : List FrameRecord) → All FitsRecord rs → Fits (take_from store room q rs).0

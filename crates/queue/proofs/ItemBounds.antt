@@ -30,7 +30,6 @@ payload_within m reserved h = leb-true m.payload.len 16777216 (and_left _ _ (and
 -- a send that refusal 3 lets through
 pub record Sendable (a : Sending) : Type 0 where
   pub within : within_bounds a.message a.reserved ≡ true
-  pub reservation : reservable a.reserved ≡ true
   pub bounds : WithinBounds (single_of a.message)
 
 pub sendable : (s : Sending) → within_bounds s.message s.reserved ≡ true → Is64 s.message.event_time → Sendable s
@@ -46,7 +45,6 @@ sendable s h is64 =
     let ab : (a && b) ≡ true = and_left (a && b) c abc in
     record {
       within = h;
-      reservation = and_right (a && b && c && d && e) (reservable s.reserved) h;
       bounds = record {
         payload = payload_within m s.reserved h;
         partition_key = part_within m.partition_key (and_right a b ab);

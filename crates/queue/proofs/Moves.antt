@@ -63,7 +63,7 @@ module _ (q : Queue) (k : Well q) where
   join_well a held pending s =
       record {
         out = rw (join_out a held) (join_sound q.out a.message q.ids.next_sequence_id a.now k.out held s.bounds);
-        pending = rw (lt-ltb (length q.pending) 256 pending) (one_more q.pending _ k.pending pending s.reservation);
+        pending = rw (lt-ltb (length q.pending) 256 pending) (one_more q.pending _ k.pending pending s.within);
       }
 
   pub single_well : (a : Sending) → q.out.waiting + 1 ≤ 1024 → length q.pending < 256 → Sendable a → Well (emit_single a q)
@@ -79,8 +79,8 @@ module _ (q : Queue) (k : Well q) where
   unfolding emit_chunked
   chunked_well a size count e room pending s =
       let any : 1 ≤ count = rw e (some_chunk a.message.payload.len size) in
-      let formed : (within_bounds a.message a.reserved && eqb count (total_chunks a.message.payload.len size)) ≡ true =
-      rw s.within (eq-eqb count (total_chunks a.message.payload.len size) e) in
+      let formed : (eqb count (total_chunks a.message.payload.len size) && within_bounds a.message a.reserved) ≡ true =
+      rw (eq-eqb count (total_chunks a.message.payload.len size) e) s.within in
       record {
         out = rw (chunked_out a size count any room) (append_sound q.out (chunked_record q a size count) count k.out (omega arith) refl any room);
         pending = rw (lt-ltb (length q.pending) 256 pending) (one_more q.pending _ k.pending pending formed);

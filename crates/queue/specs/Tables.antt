@@ -3,7 +3,6 @@ use Rattle.std.specs.Prelude.{ℕ, ◌+◌, Bool, true, false, not, ◌&&◌, �
 use Rattle.laws.specs.Choice.{pick}
 use Rattle.laws.specs.Lists.{front_all}
 use Rattle.laws.specs.Numbers.{add_sat}
-use Rattle.types.specs.MemoryLimit.{reservable}
 use Rattle.types.specs.declared.entry.OpSend.{OpSend}
 use Rattle.types.specs.declared.entry.Replay.{Replay}
 use Rattle.types.specs.declared.entry.Replay.TheVariants as replay
@@ -85,16 +84,20 @@ abbrev pub frames_for : List OpSend → ℕ
 frames_for [] = 0
 frames_for (op ∷ l) = frames_of op.publish.replay + frames_for l
 
--- 12: the chunk count is that of payload length and chunk size, and no bound of 3 is passed, the reservation's included
-abbrev pub well_formed_as : OpSend → Replay → Bool
-well_formed_as op replay.Batched = reservable op.publish.reservation.bytes
-well_formed_as op replay.Single = within_bounds op.publish.message op.publish.reservation.bytes
-well_formed_as op (replay.Chunked count size) =
-    within_bounds op.publish.message op.publish.reservation.bytes && eqb count (total_chunks op.publish.message.payload.len size)
+-- a chunked one's chunk count is that of its payload length and chunk size
+abbrev pub has_chunk_count : ℕ → Replay → Bool
+has_chunk_count len replay.Batched = true
+has_chunk_count len replay.Single = true
+has_chunk_count len (replay.Chunked count size) = eqb count (total_chunks len size)
+
+-- 12 refuses an entry without that count, or past any bound of 3, the reservation's included
+abbrev pub well_formed : OpSend → Bool
+well_formed op =
+    has_chunk_count op.publish.message.payload.len op.publish.replay && within_bounds op.publish.message op.publish.reservation.bytes
 
 abbrev pub all_well_formed : List OpSend → Bool
 all_well_formed [] = true
-all_well_formed (op ∷ l) = well_formed_as op op.publish.replay && all_well_formed l
+all_well_formed (op ∷ l) = well_formed op && all_well_formed l
 
 -- the index is rebuilt: every id is in it
 abbrev pub mark : OpSend → OpSend

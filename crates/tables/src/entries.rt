@@ -1,6 +1,6 @@
 // What a replay makes of an entry, and which entries it takes (document 01, 'receipts, errors, snapshot, replay').
 ghost use Rattle.std.specs.Prelude.{◌≡◌};
-ghost use Rattle.queue.specs.Tables.{is_batched, frames_of, kind_again, again, well_formed_as, all_well_formed};
+ghost use Rattle.queue.specs.Tables.{is_batched, frames_of, kind_again, again, has_chunk_count, well_formed, all_well_formed};
 ghost use Rattle.tables.specs.Again.{unless_batched};
 
 use plans::send::frame_of;
@@ -58,22 +58,29 @@ pub fn frame_again(op: OpSend) -> Option<FrameRecord>
     (!is_batched(op.publish.replay)).then_some(again(op))
 }
 
-// 12. The message's bounds and the chunk count matter where the entry has frames.
-pub fn well_formed(op: OpSend) -> bool
-    ensures { result ≡ well_formed_as op op.publish.replay }
+// Whether a chunked entry's count is that of its payload length and chunk size.
+fn has_chunk_count(len: usize, replay: Replay) -> bool
+    ensures { result ≡ has_chunk_count len replay }
 {
-    let publish = op.publish;
-    match publish.replay {
-        Replay::Batched => publish.reservation.within_bound(),
-        Replay::Single => within_bounds(publish.message, publish.reservation),
+    match replay {
+        Replay::Batched | Replay::Single => true,
         Replay::Chunked {
             total_chunks,
             max_chunk_size,
         } => {
-            let count = compute_total_chunks(publish.message.payload.len, max_chunk_size as usize);
-            within_bounds(publish.message, publish.reservation) && total_chunks == count
+            let count = compute_total_chunks(len, max_chunk_size as usize);
+            total_chunks == count
         }
     }
+}
+
+// 12, of entries of every kind.
+pub fn well_formed(op: OpSend) -> bool
+    ensures { result ≡ well_formed op }
+{
+    let publish = op.publish;
+    has_chunk_count(publish.message.payload.len, publish.replay)
+        && within_bounds(publish.message, publish.reservation)
 }
 
 // 12, of a whole table: also of one that 7 would refuse by its length.

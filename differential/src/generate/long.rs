@@ -264,6 +264,7 @@ impl Walk<'_> {
         (0..count).map(|_| self.entry()).collect()
     }
 
+    /// Seldom with another chunk count, or over a bound of 3.
     fn entry(&mut self) -> TableEntry {
         let message = self.message();
         let (chunk_size, wrong_every) = match self.mood {
@@ -274,7 +275,7 @@ impl Walk<'_> {
             0 => 1,
             size => message.payload.length.div_ceil(size.into()).max(1) as u32,
         };
-        TableEntry {
+        let mut entry = TableEntry {
             sequence_id: self.known_id(),
             num_messages: self.count(),
             enqueued_at: self.now(),
@@ -293,7 +294,11 @@ impl Walk<'_> {
             name_length: self.random.pick(&[0, 1, 64, 65, 255]),
             name: [b'n'; 64],
             uuid: self.random.bytes(),
+        };
+        if self.random.one_in(4 * wrong_every) {
+            pass_a_bound(self.random, &mut entry);
         }
+        entry
     }
 
     /// Forward mostly, sometimes back.
@@ -343,6 +348,21 @@ impl Walk<'_> {
         } else {
             self.store
         }
+    }
+}
+
+/// Makes one length of the entry, or its reservation, one too many.
+fn pass_a_bound(random: &mut Random, entry: &mut TableEntry) {
+    let message = &mut entry.message;
+    let of_length = |length| Part { start: 0, length };
+    let key = Some(of_length(1_025));
+    match random.below(6) {
+        0 => message.payload = of_length(16_777_217),
+        1 => message.partition_key = key,
+        2 => message.ordering_key = key,
+        3 => message.schema_version = key,
+        4 => message.name = of_length(65),
+        _ => entry.reserved = 1 << 40,
     }
 }
 
