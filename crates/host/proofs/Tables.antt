@@ -9,14 +9,14 @@ use Rattle.producer.specs.Meets.{Meets}
 use Rattle.producer.specs.Tables.{told_table, told_snapshot}
 use Rattle.producer.specs.declared.state.ProducerState.{ProducerState}
 use Rattle.producer.proofs.Fits.{drain_fits, timeouts_fit, snapshot_fits}
-use Rattle.host.specs.Framing.{handed}
+use Rattle.host.specs.Framing.{entries_handed}
 
 module _ (s t : ProducerState) (room : ℕ) (table : List OpSend) where
-  pub drained : (a : Result ℕ ProducerError) → Meets [] (drain room) s t (told_table a table) → handed a ≤ room
+  pub drained : (a : Result ℕ ProducerError) → Meets [] (drain room) s t (told_table a table) → entries_handed a ≤ room
   drained (Ok n) e = drain_fits s t room n table e
   drained (Err x) e = zero-le
 
-  pub timed : (a : Result ℕ ProducerError) (time : ℕ) → Meets [] (timeouts time room) s t (told_table a table) → handed a ≤ room
+  pub timed : (a : Result ℕ ProducerError) (time : ℕ) → Meets [] (timeouts time room) s t (told_table a table) → entries_handed a ≤ room
   timed (Ok n) time e = timeouts_fit s t room n table time e
   timed (Err x) time e = zero-le
 

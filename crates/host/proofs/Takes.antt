@@ -10,7 +10,7 @@ use Rattle.producer.specs.View.{view}
 use Rattle.producer.specs.declared.state.ProducerState.{ProducerState}
 use Rattle.producer.proofs.Fits.{frame_fits}
 use Rattle.script.specs.Output.{Wrote}
-use Rattle.host.specs.Framing.{Completes, taken}
+use Rattle.host.specs.Framing.{Completes, bytes_taken}
 use Rattle.script.proofs.Outputs.{nothing}
 use Rattle.host.proofs.Framing.{lent}
 use Rattle.types.specs.declared.error.ProducerError.{ProducerError}
@@ -18,7 +18,7 @@ use Rattle.types.specs.declared.error.ProducerError.{ProducerError}
 -- what is answered fits the buffer
 pub taken_fits : (store before after : List ℕ) (s t : ProducerState) (a : Result OutboundFrame ProducerError)
     → Meets store (take_call (length before)) s t (told_frame store after a) → OwnParts store (view s) (view s).out.frames a
-    → taken a ≤ length before
+    → bytes_taken a ≤ length before
 taken_fits store before after s t (Ok f) e own = frame_fits store before after s t f e own
 taken_fits store before after s t (Err r) e own = zero-le
 
@@ -26,15 +26,15 @@ taken_fits store before after s t (Err r) e own = zero-le
 pub part_fits : (d ys store : List ℕ) (start end : ℕ) (s t : ProducerState) (a : Result OutboundFrame ProducerError)
     → end ≤ length d
     → Meets store (take_call (length (take (end - start) (drop start d)))) s t (told_frame store ys a) → OwnParts store (view s) (view s).out.frames a
-    → taken a ≤ end - start
+    → bytes_taken a ≤ end - start
 part_fits d ys store start end s t a k e own =
     let m : length (take (end - start) (drop start d)) ≡ end - start =
     length-take-le (end - start) (drop start d) (rw length-drop (omega arith)) in
     rw m at (taken_fits store (take (end - start) (drop start d)) ys s t a e own)
 
 module _ (store before after : List ℕ) (l : length after ≡ length before) where
-  wrote : (a : Result OutboundFrame ProducerError) → taken a ≤ length before → after ≡ written (told_frame store after a) before
-      → Wrote 0 before after (taken a)
+  wrote : (a : Result OutboundFrame ProducerError) → bytes_taken a ≤ length before → after ≡ written (told_frame store after a) before
+      → Wrote 0 before after (bytes_taken a)
   wrote (Ok f) h e =
       let n = f.payload_len in
       let k : length (take n after) ≡ n = length-take-le n after (omega (arith, l)) in
@@ -51,9 +51,9 @@ module _ (store before after : List ℕ) (l : length after ≡ length before) wh
   wrote (Err r) h e = rw e nothing
 
 pub took : {d ys e : List ℕ} {to start end r : ℕ} (store : List ℕ) (a : Result OutboundFrame ProducerError)
-    → taken a ≤ end - start
+    → bytes_taken a ≤ end - start
     → ys ≡ written (told_frame store ys a) (take (end - start) (drop start d))
-    → Completes to start (taken a) (take start d ++ (ys ++ drop (end - start) (drop start d))) e r
+    → Completes to start (bytes_taken a) (take start d ++ (ys ++ drop (end - start) (drop start d))) e r
     → start ≤ end → end ≤ length d → length ys ≡ length (take (end - start) (drop start d)) → Wrote to d e r
 took {d} {ys} {e} {to} {start} {end} store a f w c h k l =
     let m : length (take (end - start) (drop start d)) ≡ end - start =

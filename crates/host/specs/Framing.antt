@@ -9,11 +9,11 @@ abbrev pub Completes : ℕ → ℕ → ℕ → List ℕ → List ℕ → ℕ →
 Completes at start n before after r = (first : List ℕ) → Wrote start first before (start + n) → Wrote at first after r
 
 -- how many bytes a take has written to its buffer
-abbrev pub taken : Result OutboundFrame ProducerError → ℕ
-taken (Ok f) = f.payload_len
-taken (Err e) = 0
+abbrev pub bytes_taken : Result OutboundFrame ProducerError → ℕ
+bytes_taken (Ok f) = f.payload_len
+bytes_taken (Err e) = 0
 
 -- how many entries a drain has written to its table
-abbrev pub handed : Result ℕ ProducerError → ℕ
-handed (Ok n) = n
-handed (Err e) = 0
+abbrev pub entries_handed : Result ℕ ProducerError → ℕ
+entries_handed (Ok n) = n
+entries_handed (Err e) = 0

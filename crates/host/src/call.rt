@@ -15,7 +15,7 @@ use script::write::Output;
 use types::types::ProducerHandle;
 
 #[inline(never)]
-fn call_send(s: &ProducerState, task: Task, out: &mut Output) -> ProducerState
+fn call_send(s: &mut ProducerState, task: Task, out: &mut Output)
     ensures { Writes out.old out.new }
 {
     let a = task.sending();
@@ -33,77 +33,77 @@ fn call_send(s: &ProducerState, task: Task, out: &mut Output) -> ProducerState
         s.queue_send(lent, a.message, a.uuid, a.publish_time, a.now)
     };
     out.put((task.call, r.answer));
-    r.state
+    *s = r.state;
 }
 
 #[inline(never)]
-fn call_flush(s: &ProducerState, task: Task, out: &mut Output) -> ProducerState
+fn call_flush(s: &mut ProducerState, task: Task, out: &mut Output)
     ensures { Writes out.old out.new }
 {
     let r = s.flush_batch(task.arguments.get(), task.arguments.behind(8).get());
     out.put((task.call, r.answer));
-    r.state
+    *s = r.state;
 }
 
 #[inline(never)]
-fn call_receipt(s: &ProducerState, task: Task, out: &mut Output) -> ProducerState
+fn call_receipt(s: &mut ProducerState, task: Task, out: &mut Output)
     ensures { Writes out.old out.new }
 {
     let r = s.apply_receipt(task.arguments.get());
     out.put((task.call, r.answer.map(|(op, id)| (id, op))));
-    r.state
+    *s = r.state;
 }
 
 #[inline(never)]
-fn call_error(s: &ProducerState, task: Task, out: &mut Output) -> ProducerState
+fn call_error(s: &mut ProducerState, task: Task, out: &mut Output)
     ensures { Writes out.old out.new }
 {
     let r = s.apply_send_error(task.arguments.get());
     out.put((task.call, r.answer.map(|(op, error)| (error, op))));
-    r.state
+    *s = r.state;
 }
 
 #[inline(never)]
-fn call_ids(s: &ProducerState, task: Task, out: &mut Output) -> ProducerState
+fn call_ids(s: &mut ProducerState, task: Task, out: &mut Output)
     ensures { Writes out.old out.new }
 {
     put_done(out, task.call, ());
-    s.set_initial_sequence_id(task.arguments.get())
+    *s = s.set_initial_sequence_id(task.arguments.get());
 }
 
 #[inline(never)]
-fn call_name(s: &ProducerState, task: Task, out: &mut Output) -> ProducerState
+fn call_name(s: &mut ProducerState, task: Task, out: &mut Output)
     ensures { Writes out.old out.new }
 {
     let r = s.set_name(task.name());
     out.put((task.call, r.answer));
-    r.state
+    *s = r.state;
 }
 
 #[inline(never)]
-fn call_set(s: &ProducerState, task: Task, out: &mut Output) -> ProducerState
+fn call_set(s: &mut ProducerState, task: Task, out: &mut Output)
     ensures { Writes out.old out.new }
 {
     let r = s.set(task.setting());
     out.put((task.call, r.answer));
-    r.state
+    *s = r.state;
 }
 
 #[inline(never)]
-fn call_close(s: &ProducerState, task: Task, out: &mut Output) -> ProducerState
+fn call_close(s: &mut ProducerState, task: Task, out: &mut Output)
     ensures { Writes out.old out.new }
 {
     put_done(out, task.call, ());
-    s.close()
+    *s = s.close();
 }
 
 #[inline(never)]
-fn call_resend(s: &ProducerState, task: Task, out: &mut Output) -> ProducerState
+fn call_resend(s: &mut ProducerState, task: Task, out: &mut Output)
     ensures { Writes out.old out.new }
 {
     let r = s.replay_pending_outbound();
     out.put((task.call, r.answer));
-    r.state
+    *s = r.state;
 }
 
 #[inline(never)]
@@ -129,12 +129,7 @@ fn call_query(s: &ProducerState, task: Task, out: &mut Output)
 }
 
 // `last` has the replay table of the last snapshot.
-pub(crate) fn call(
-    s: &ProducerState,
-    last: &mut Table,
-    task: Task,
-    out: &mut Output,
-) -> ProducerState
+pub(crate) fn call(s: &mut ProducerState, last: &mut Table, task: Task, out: &mut Output)
     requires { out.old.at ≤ length out.old.bytes.now }
     ensures { Writes out.old out.new }
 {
@@ -159,10 +154,7 @@ pub(crate) fn call(
         | Call::SetBatchingMaxPublishDelay
         | Call::SetBrokerReady => call_set(s, task, out),
         Call::Close => call_close(s, task, out),
-        _ => {
-            call_query(s, task, out);
-            *s
-        }
+        _ => call_query(s, task, out),
     }
 }
 
@@ -182,6 +174,6 @@ impl Drive for ByValue {
     }
 
     fn carry_out(&mut self, task: Task, out: &mut Output) {
-        self.state = call(&self.state, &mut self.last, task, out);
+        call(&mut self.state, &mut self.last, task, out);
     }
 }

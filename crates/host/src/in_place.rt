@@ -93,7 +93,7 @@ impl InPlace {
         requires { out.old.at ≤ length out.old.bytes.now }
         ensures { Writes out.old out.new }
     {
-        self.state = call(&self.state, &mut self.last, task, out);
+        call(&mut self.state, &mut self.last, task, out);
     }
 }
 

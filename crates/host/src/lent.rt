@@ -1,6 +1,6 @@
 // The operations that are lent tables, through the public methods.
 ghost use Rattle.std.specs.Prelude.{◌≤◌, length};
-ghost use Rattle.host.specs.Framing.{handed};
+ghost use Rattle.host.specs.Framing.{entries_handed};
 ghost use Rattle.script.specs.Output.{Writes};
 
 use crate::task::Task;
@@ -50,7 +50,7 @@ fn room_at(place: Place) -> usize
 
 // What a drain answers: a count and so many entries of its table, or a refusal.
 fn put_drained(out: &mut Output, call: Call, table: &[OpSend], answer: Result<usize, ProducerError>)
-    requires { handed answer ≤ length table.now }
+    requires { entries_handed answer ≤ length table.now }
     ensures { Writes out.old out.new }
 {
     match answer {
@@ -60,7 +60,7 @@ fn put_drained(out: &mut Output, call: Call, table: &[OpSend], answer: Result<us
 }
 
 #[inline(never)]
-pub(crate) fn call_drain(s: &ProducerState, task: Task, out: &mut Output) -> ProducerState
+pub(crate) fn call_drain(s: &mut ProducerState, task: Task, out: &mut Output)
     ensures { Writes out.old out.new }
 {
     let mut table = [no_entry(); MOST_ENTRIES];
@@ -68,23 +68,18 @@ pub(crate) fn call_drain(s: &ProducerState, task: Task, out: &mut Output) -> Pro
         let n = room_at(task.arguments.behind(8));
         let r = s.drain_timed_out_sends(task.arguments.get(), &mut table[..n]);
         put_drained(out, task.call, &table[..n], r.answer);
-        r.state
+        *s = r.state;
     } else {
         let n = room_at(task.arguments);
         let r = s.drain_pending_sends(&mut table[..n]);
         put_drained(out, task.call, &table[..n], r.answer);
-        r.state
+        *s = r.state;
     }
 }
 
 // `last` has the replay table of the last snapshot. One that is refused leaves it.
 #[inline(never)]
-pub(crate) fn call_snapshot(
-    s: &ProducerState,
-    last: &mut Table,
-    task: Task,
-    out: &mut Output,
-) -> ProducerState
+pub(crate) fn call_snapshot(s: &mut ProducerState, last: &mut Table, task: Task, out: &mut Output)
     ensures { Writes out.old out.new }
 {
     let mut dropped = [no_entry(); MOST_ENTRIES];
@@ -104,16 +99,11 @@ pub(crate) fn call_snapshot(
         }
         Err(e) => out.put((task.call, e)),
     }
-    r.state
+    *s = r.state;
 }
 
 #[inline(never)]
-pub(crate) fn call_replay(
-    s: &ProducerState,
-    last: &Table,
-    task: Task,
-    out: &mut Output,
-) -> ProducerState
+pub(crate) fn call_replay(s: &mut ProducerState, last: &Table, task: Task, out: &mut Output)
     ensures { Writes out.old out.new }
 {
     let r = if task.call == Call::ReplaySnapshots {
@@ -123,5 +113,5 @@ pub(crate) fn call_replay(
         s.replay_snapshots(first(last.as_slice(), n))
     };
     out.put((task.call, r.answer));
-    r.state
+    *s = r.state;
 }

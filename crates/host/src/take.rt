@@ -1,7 +1,7 @@
 // The take, with the output itself as the buffer: the payload stands 10 bytes behind the answer's start.
 ghost use Rattle.std.specs.Prelude.{◌≡◌, ◌-◌, ◌≤◌, length};
 ghost use Rattle.script.specs.Output.{Wrote, Writes};
-ghost use Rattle.host.specs.Framing.{Completes, taken};
+ghost use Rattle.host.specs.Framing.{Completes, bytes_taken};
 
 use crate::task::Task;
 use producer::state::ProducerState;
@@ -47,9 +47,9 @@ pub(crate) fn put_taken(
     store: &[u8],
     answer: Result<OutboundFrame, ProducerError>,
 )
-    requires { (out.old.at ≤ buffer.start) × (buffer.end ≤ length out.old.bytes.now) × (taken answer ≤ buffer.end - buffer.start) }
+    requires { (out.old.at ≤ buffer.start) × (buffer.end ≤ length out.old.bytes.now) × (bytes_taken answer ≤ buffer.end - buffer.start) }
     ensures same_reference { out.new.bytes.ghost_name ≡ out.old.bytes.ghost_name }
-    ensures completes { Completes out.old.at buffer.start (taken answer) out.old.bytes.now out.new.bytes.now out.new.at }
+    ensures completes { Completes out.old.at buffer.start (bytes_taken answer) out.old.bytes.now out.new.bytes.now out.new.at }
 {
     match answer {
         Ok(frame) => {
@@ -63,7 +63,7 @@ pub(crate) fn put_taken(
 }
 
 #[inline(never)]
-pub(crate) fn call_take(s: &ProducerState, task: Task, out: &mut Output) -> ProducerState
+pub(crate) fn call_take(s: &mut ProducerState, task: Task, out: &mut Output)
     requires { out.old.at ≤ length out.old.bytes.now }
     ensures { Writes out.old out.new }
 {
@@ -71,5 +71,5 @@ pub(crate) fn call_take(s: &ProducerState, task: Task, out: &mut Output) -> Prod
     let buffer = buffer_of(task, out);
     let r = s.next_outbound_frame(lent, &mut out.bytes[buffer.start..buffer.end]);
     put_taken(out, buffer, lent, r.answer);
-    r.state
+    *s = r.state;
 }

@@ -9,7 +9,7 @@ use Rattle.laws.proofs.Rings.{ring_pop, ring_none}
 use Rattle.laws.proofs.Slots.{slot_below}
 use Rattle.types.specs.declared.entry.OpSend.{OpSend}
 use Rattle.types.specs.declared.entry.Publish.{Publish}
-use Rattle.queue.specs.Ids.{after, elapsed, front_deadline, next_send_deadline, next_batch_deadline, batch_deadline_elapsed}
+use Rattle.queue.specs.Ids.{delayed, elapsed, front_deadline, next_send_deadline, next_batch_deadline, batch_deadline_elapsed}
 use Rattle.upkeep.specs.Deadline.{maybe_after, has_elapsed, unless_none}
 use Rattle.plans.specs.Ids.{send_deadline_of, batch_deadline_of}
 use Rattle.producer.specs.View.{view, slots_of}
@@ -18,7 +18,7 @@ use Rattle.rules.specs.Blank.{no_entry}
 use Rattle.producer.proofs.Entries.{entries_at}
 use Rattle.producer.proofs.Full.{Full, slots}
 
-num_after : (delay : Option ℕ) (time : ℕ) → (maybe_after delay time) ≡ after delay time
+num_after : (delay : Option ℕ) (time : ℕ) → (maybe_after delay time) ≡ delayed delay time
 num_after None time = refl
 num_after (Some d) time = refl
 
@@ -66,7 +66,7 @@ send_deadline_lem s f at q d =
     sent : ℕ
     sent = (get_or s.pending at d).enqueued_at
 
-    go : Dec (0 < n) → pick (eqb n 0) None (after timeout sent) ≡ front_deadline timeout (ring 256 (slots_of s) h n)
+    go : Dec (0 < n) → pick (eqb n 0) None (delayed timeout sent) ≡ front_deadline timeout (ring 256 (slots_of s) h n)
     go (yes b) =
         let below : at < 256 = omega (arith, q, slot_below 256 h 0 (lit< tt)) in
         let li : at < length s.pending_ids = omega (arith, below, f.ids) in
@@ -74,11 +74,11 @@ send_deadline_lem s f at q d =
         let lp : at < length s.pending = omega (arith, below, f.pending) in
         let entry =
         ap (λ (k : ℕ). get_or (slots_of s) k no_entry) (sym q) ∙ entries_at s.pending_ids s.pending_marks s.pending at d no_entry li lm lp in
-        pick_false None (after timeout sent) (ne_eqb n 0 (λ z. omega arith))
+        pick_false None (delayed timeout sent) (ne_eqb n 0 (λ z. omega arith))
         ∙ sym
         (ap (front_deadline timeout) (ring_pop 256 (lit< tt) (slots_of s) (slots s f) no_entry h n (omega arith))
-        ∙ ap (λ (op : OpSend). after timeout op.publish.enqueued_at) entry)
+        ∙ ap (λ (op : OpSend). delayed timeout op.publish.enqueued_at) entry)
     go (no b) =
         let z : n ≡ 0 = omega arith in
-        pick_true None (after timeout sent) (eq-eqb n 0 z)
+        pick_true None (delayed timeout sent) (eq-eqb n 0 z)
         ∙ sym (ap (front_deadline timeout) (ap (ring 256 (slots_of s) h) z ∙ ring_none 256 (slots_of s) h))

@@ -5,7 +5,7 @@ use Rattle.laws.specs.Choice.{pick}
 use Rattle.laws.specs.Lists.{first_at}
 use Rattle.laws.specs.Lists as lists
 use Rattle.types.specs.declared.entry.OpSend.{OpSend}
-use Rattle.queue.specs.Settle.{bears, answerable, found, without}
+use Rattle.queue.specs.Settle.{bears, answerable, found, without_id}
 use Rattle.upkeep.specs.Pending.{wanted, first_if, located}
 use Rattle.producer.specs.Settle.{key_of}
 
@@ -27,7 +27,7 @@ first_more p k (x ∷ l) = go (p x) (first_more p (k + 1) l)
 -- what the definitions say of the entry that a search finds
 abbrev pub Place : ℕ → List OpSend → Option ℕ → Type 0
 Place id l None = found id l ≡ None
-Place id l (Some i) = ((x : OpSend) → found id l ≡ Some (get_or l i x)) × (without id l ≡ lists.without l i)
+Place id l (Some i) = ((x : OpSend) → found id l ≡ Some (get_or l i x)) × (without_id id l ≡ lists.without l i)
 
 later : (id : ℕ) (op : OpSend) (l : List OpSend) (o : Option ℕ) → bears id op ≡ false → Place id l o → Place id (op ∷ l) (more o)
 later id op l None e p = rw e p

@@ -26,7 +26,7 @@ use Rattle.wire.specs.Length.{stopped, batch_length}
 use Rattle.wire.proofs.Lengths.{batch_length_lem}
 use Rattle.queue.specs.Queue.{Queue, Answer, refuse, with_out, done}
 use Rattle.queue.specs.Frame.{Frame, first_frame, frame_in, borne_in, chunk_part, all_in}
-use Rattle.queue.specs.Take.{with_kind, next_chunk, rest_of, holds, taken, take_from, next_outbound_frame, written}
+use Rattle.queue.specs.Take.{with_kind, next_chunk, rest_of, holds, after_take, take_from, next_outbound_frame, written}
 use Rattle.queue.specs.Told.{Kept}
 use Rattle.frames.specs.Span.{name_in, borne, span_of, is_batch, held_count}
 use Rattle.producer.proofs.Payload.{payload_of, Writable}
@@ -225,7 +225,7 @@ module _ (s : ProducerState) (f : Full s) (d : FrameRecord) (at : ℕ) (q : at �
       }
 
   after_is : SingleMessage → 0 < s.core.rings.outbound.len → (r : FrameRecord)
-      → view (state_after r) ≡ with_out (taken r behind (view s).out) (view s)
+      → view (state_after r) ≡ with_out (after_take r behind (view s).out) (view s)
   unfolding view
   after_is m b r =
       λ j.
@@ -344,7 +344,7 @@ module _ (s : ProducerState) (f : Full s) (d : FrameRecord) (at : ℕ) (q : at �
       opened : next_outbound_frame store (length before) (view s)
           ≡ pick (frame_in (length store) front_of kind held_list)
           (pick (ltb (length before) (length (frame_for store front_of kind).payload)) (refuse 9 (view s))
-          (with_out (taken front_of behind (view s).out) (view s), done (frame_for store front_of kind)))
+          (with_out (after_take front_of behind (view s).out) (view s), done (frame_for store front_of kind)))
           (refuse 2 (view s))
       unfolding next_outbound_frame view
       opened = ap (take_from store (length before) (view s)) (some_waiting p)
@@ -365,7 +365,7 @@ module _ (s : ProducerState) (f : Full s) (d : FrameRecord) (at : ℕ) (q : at �
         too_short t = opened ∙ pick_true _ _ within ∙ pick_true _ _ (test ∙ t)
 
         goes : ltb (length before) g.len ≡ false
-            → next_outbound_frame store (length before) (view s) ≡ (with_out (taken front_of behind (view s).out) (view s), done (frame_for store front_of kind))
+            → next_outbound_frame store (length before) (view s) ≡ (with_out (after_take front_of behind (view s).out) (view s), done (frame_for store front_of kind))
         goes t = opened ∙ pick_true _ _ within ∙ pick_false _ _ (test ∙ t)
 
     -- the struct that is answered

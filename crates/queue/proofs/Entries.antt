@@ -14,7 +14,7 @@ use Rattle.types.specs.declared.entry.Replay.TheVariants as replay
 use Rattle.types.specs.declared.frame.FrameRecord.{FrameRecord}
 use Rattle.wire.specs.Batch.{All}
 use Rattle.queue.specs.Send.{total_chunks}
-use Rattle.queue.specs.Settle.{bears, unmark, without, settled, unmark_all}
+use Rattle.queue.specs.Settle.{bears, unmark, without_id, settled, unmark_all}
 use Rattle.queue.specs.Tables.{is_batched, framed_of, again, frames_for, has_chunk_count, well_formed, all_well_formed, mark, borne, unborne}
 use Rattle.queue.specs.Reachable.{left_all}
 use Rattle.laws.proofs.Choice.{pick_ind, and_left, and_right}
@@ -73,11 +73,11 @@ module _ {P : OpSend → Type 0} (by : ByPublish P) where
   drop_fewer (suc n) [] = same []
   drop_fewer (suc n) (op ∷ l) = let d = drop_fewer n l in record { fewer = omega (arith, d.fewer); kept = λ h. d.kept h.1 }
 
-  without_fewer : (id : ℕ) (l : List OpSend) → Fewer P (without id l) l
+  without_fewer : (id : ℕ) (l : List OpSend) → Fewer P (without_id id l) l
   without_fewer id [] = same []
   without_fewer id (op ∷ l) =
       let d = without_fewer id l in
-      pick_ind (λ x. Fewer P x (op ∷ l)) (bears id op) l (op ∷ without id l)
+      pick_ind (λ x. Fewer P x (op ∷ l)) (bears id op) l (op ∷ without_id id l)
       (λ e. record { fewer = omega arith; kept = λ h. h.1 })
       (λ e. record { fewer = omega (arith, d.fewer); kept = λ h. (h.0, d.kept h.1) })
 
@@ -88,7 +88,7 @@ module _ {P : OpSend → Type 0} (by : ByPublish P) where
       both (unmark_fewer gone (map (unmark id) l)) (map_fewer (unmark id) (λ x. refl) l)
 
   settled_fewer : (id : ℕ) (l : List OpSend) → Fewer P (settled id l) l
-  settled_fewer id l = both (map_fewer (unmark id) (λ x. refl) (without id l)) (without_fewer id l)
+  settled_fewer id l = both (map_fewer (unmark id) (λ x. refl) (without_id id l)) (without_fewer id l)
 
   timed_fewer : (gone : List OpSend) (n : ℕ) (l : List OpSend) → Fewer P (unmark_all gone (drop n l)) l
   timed_fewer gone n l = both (unmark_fewer gone (drop n l)) (drop_fewer n l)

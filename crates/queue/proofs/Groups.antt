@@ -22,7 +22,7 @@ use Rattle.wire.specs.Batch.{All, WithinBounds}
 use Rattle.queue.specs.Queue.{Queue, Outgoing, done, refuse, with_out}
 use Rattle.queue.specs.Send.{message_in}
 use Rattle.queue.specs.Frame.{Frame, single_frame, batch_frame, chunk_frame, chunk_part, single_in, all_in, borne_in}
-use Rattle.queue.specs.Take.{with_kind, next_chunk, taken, next_outbound_frame}
+use Rattle.queue.specs.Take.{with_kind, next_chunk, after_take, next_outbound_frame}
 use Rattle.queue.specs.Reachable.{left, left_all}
 use Rattle.laws.proofs.Choice.{false_true}
 use Rattle.queue.proofs.Reading.{chunk_run, run_length, Cut}
@@ -163,7 +163,7 @@ unfolding next_outbound_frame chunk_run
 next store q (single r) gs ms k =
     record {
       frame = single_frame store q.handle r;
-      rest = taken (with_kind kind.Single r) (map record_in gs) q.out;
+      rest = after_take (with_kind kind.Single r) (map record_in gs) q.out;
       groups = gs;
       takes = λ room. rw (k.frames, borne_in_lem (length store) r.message r.message.payload r.message.payload k.agrees.0 (λ h. h));
       moved = refl;
@@ -177,7 +177,7 @@ next store q (batch r b xs) gs ms k =
     let back : drop b.num_messages q.out.held ≡ held_all gs ++ ms = rw (split, k.agrees.0.0) (drop-append_seam xs (held_all gs ++ ms)) in
     record {
       frame = batch_frame store q.handle r b xs;
-      rest = taken (with_kind (kind.Batch b) r) (map record_in gs) q.out;
+      rest = after_take (with_kind (kind.Batch b) r) (map record_in gs) q.out;
       groups = gs;
       takes = λ room. rw (k.frames, front, all_in_lem store xs k.agrees.0.1);
       moved = refl;
@@ -188,7 +188,7 @@ next store q (batch r b xs) gs ms k =
 next store q (chunks r c zero) gs ms k =
     record {
       frame = chunk_frame store q.handle r c;
-      rest = taken (with_kind (kind.Chunked c) r) (map record_in gs) q.out;
+      rest = after_take (with_kind (kind.Chunked c) r) (map record_in gs) q.out;
       groups = gs;
       takes = λ room. rw (k.frames, chunk_in store r c zero k.agrees.0);
       moved = refl;
@@ -204,7 +204,7 @@ next store q (chunks r c (suc n)) gs ms k =
     let w = k.agrees.0 in
     record {
       frame = chunk_frame store q.handle r c;
-      rest = taken (with_kind (kind.Chunked c) r) (map record_in gs) q.out;
+      rest = after_take (with_kind (kind.Chunked c) r) (map record_in gs) q.out;
       groups = chunks r (next_chunk c) n ∷ gs;
       takes = λ room. rw (k.frames, chunk_in store r c (suc n) w);
       moved = refl;

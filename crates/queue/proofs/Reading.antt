@@ -21,7 +21,7 @@ use Rattle.wire.proofs.ItemLaws.{read_batch}
 use Rattle.queue.specs.Frame.{Frame, single_frame, batch_frame, chunk_frame, chunk_part}
 use Rattle.queue.specs.Take.{next_chunk}
 use Rattle.queue.specs.Message.{Message, message_of}
-use Rattle.queue.specs.Read.{item_message, joined, Place, between, inside, Reading, chunks_read, read_frame, before, and_then, read_from}
+use Rattle.queue.specs.Read.{item_message, with_bytes, Place, between, inside, Reading, chunks_read, read_frame, before, and_then, read_from}
 use Rattle.types.specs.declared.txn.TxnId.{TxnId}
 
 -- ── frames in a row ──
@@ -115,7 +115,7 @@ module _ (store : List ℕ) (handle : ProducerHandle) (r : FrameRecord) where
     abbrev at : ℕ
     at = c.next_chunk * c.max_chunk_size
 
-    chunk_joined : joined (first at) (part_of store (chunk_part r c)) ≡ first (at + (chunk_part r c).len)
+    chunk_joined : with_bytes (first at) (part_of store (chunk_part r c)) ≡ first (at + (chunk_part r c).len)
     chunk_joined =
         let p = r.message.payload in
         rw (take-add at (chunk_part r c).len (drop p.start store), drop-drop at p.start store)

@@ -16,7 +16,7 @@ use Rattle.queue.specs.Batch.{is_empty, too_many, flush_batch}
 use Rattle.queue.specs.Send.{one, joins, is_too_large, go, flushes_before, way_of}
 use Rattle.queue.specs.Tables.{framed_of, frames_for, again, all_well_formed, unborne, replay_snapshots, replay_pending_outbound}
 use Rattle.queue.specs.Run.{Call, send, flush, take, receipt, send_error, timeouts, initial_id, set, set_name, close, query, drain, snapshot, replay, resend, after}
-use Rattle.queue.specs.Reachable.{records, Room, FindsRoom, ReachableRule}
+use Rattle.queue.specs.Reachable.{records, HasRoom, FindsRoom, ReachableRule}
 use Rattle.laws.proofs.Choice.{pick_ind, differ}
 use Rattle.queue.proofs.Sound.{waits_length, records_fit}
 use Rattle.queue.proofs.Moves.{Well}
@@ -24,7 +24,7 @@ use Rattle.queue.proofs.Entries.{EachFormed, all_well_formed_lem, unborne_all, a
 use Rattle.queue.proofs.Reached.{ChunkCount, way_chunks, Passed, plan_cases, run_well, new_well}
 
 module _ (store : List ℕ) (q : Queue) (k : Well q) where
-  send_room : (m : OutgoingMessage) (w : Way) → ChunkCount m w → Passed w q → Room q (records w) (one (joins w)) (one (not (is_too_large w)))
+  send_room : (m : OutgoingMessage) (w : Way) → ChunkCount m w → Passed w q → HasRoom q (records w) (one (joins w)) (one (not (is_too_large w)))
   send_room m (way.TooLarge before) c p =
       record {
         frames = omega (arith, records_fit q.out k.out, p.frames);
@@ -53,7 +53,7 @@ module _ (store : List ℕ) (q : Queue) (k : Well q) where
 
   -- the records of entries are no more than their frames
   replay_room : (l : List OpSend) (pending : ℕ) → EachFormed l → q.out.waiting + frames_for l ≤ 1024 → length q.pending + pending ≤ 256
-      → Room q (length (framed_of l)) 0 pending
+      → HasRoom q (length (framed_of l)) 0 pending
   replay_room l pending formed room few =
       let x = again_all l formed in
       let waits = rw length-map at (waits_length (map again (framed_of l)) x.each) in
@@ -67,7 +67,7 @@ module _ (store : List ℕ) (q : Queue) (k : Well q) where
   pub finds_room : (c : Call) → FindsRoom store q c
   unfolding flush_batch replay_snapshots replay_pending_outbound
   finds_room (send a) =
-      λ w. plan_cases (length store) a q (λ p. p ≡ go w → Room q (records w) (one (joins w)) (one (not (is_too_large w))))
+      λ w. plan_cases (length store) a q (λ p. p ≡ go w → HasRoom q (records w) (one (joins w)) (one (not (is_too_large w))))
       (λ n x e. differ (cc))
       (λ i b passed e.
       let same : way_of q.settings a.message q.out.batch ≡ w = cc in
@@ -75,7 +75,7 @@ module _ (store : List ℕ) (q : Queue) (k : Well q) where
       (send_room a.message (way_of q.settings a.message q.out.batch)
       (way_chunks q.settings a.message (flushes_before q.settings a.message q.out.batch) _) passed))
   finds_room (flush time) =
-      let P : Outcome ℕ → Type 0 = λ r. r.1 ≡ done 1 → Room q 1 0 0 in
+      let P : Outcome ℕ → Type 0 = λ r. r.1 ≡ done 1 → HasRoom q 1 0 0 in
       pick_ind P (is_empty q.out.batch) _ _ (λ x e. differ (cc))
       (λ x. pick_ind P q.settings.switches.closed _ _ (λ y e. differ (cc))
       (λ y. pick_ind P (too_many 1 q) _ _ (λ z e. differ (cc))
@@ -96,7 +96,7 @@ module _ (store : List ℕ) (q : Queue) (k : Well q) where
   finds_room (drain room) = tt
   finds_room (snapshot droppedRoom replayRoom) = tt
   finds_room (replay l) =
-      let P : Outcome (Unit {0}) → Type 0 = λ r. r.1 ≡ done tt → Room q (length (framed_of l)) 0 (length l) in
+      let P : Outcome (Unit {0}) → Type 0 = λ r. r.1 ≡ done tt → HasRoom q (length (framed_of l)) 0 (length l) in
       pick_ind P (not (all_well_formed l)) _ _ (λ x e. differ (cc))
       (λ x. pick_ind P (ltb 256 (length l + length q.pending)) _ _ (λ y e. differ (cc))
       (λ y. pick_ind P (too_many (frames_for l) q) _ _ (λ z e. differ (cc))
@@ -105,7 +105,7 @@ module _ (store : List ℕ) (q : Queue) (k : Well q) where
   finds_room resend =
       λ frames.
       let l = unborne q.out.frames q.pending in
-      let P : Outcome ℕ → Type 0 = λ r. r.1 ≡ done frames → Room q (length (framed_of l)) 0 0 in
+      let P : Outcome ℕ → Type 0 = λ r. r.1 ≡ done frames → HasRoom q (length (framed_of l)) 0 0 in
       pick_ind P (too_many (frames_for l) q) _ _ (λ z e. differ (cc))
       (λ z e. replay_room l 0 (unborne_all _ q.out.frames q.pending k.pending.formed) (ltb-false 1024 (q.out.waiting + frames_for l) z)
       (omega (arith, k.pending.few)))

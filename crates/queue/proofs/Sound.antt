@@ -22,7 +22,7 @@ use Rattle.types.specs.declared.message.SingleMessage.{SingleMessage}
 use Rattle.types.specs.declared.settings.ProducerSettings.{ProducerSettings}
 use Rattle.queue.specs.Queue.{Outgoing, empty_outgoing}
 use Rattle.queue.specs.Batch.{single_of, grown, push, with_batch, batch_record}
-use Rattle.queue.specs.Take.{with_kind, next_chunk, rest_of, holds, taken}
+use Rattle.queue.specs.Take.{with_kind, next_chunk, rest_of, holds, after_take}
 use Rattle.queue.specs.Reachable.{left, left_all, open_of, payload_sum}
 use Rattle.laws.proofs.Choice.{pick_ind}
 
@@ -185,7 +185,7 @@ rest_of_lem r (Chunked c) rs h w =
     (λ e. let l : k + 1 < n = ltb-true (k + 1) n e in record { counted = omega arith; each = (omega arith, w); held = omega arith })
     (λ e. let l : n ≤ k + 1 = ltb-false (k + 1) n e in record { counted = omega arith; each = w; held = refl })
 
-pub take_sound : (o : Outgoing) (r : FrameRecord) (rs : List FrameRecord) → Sound o → o.frames ≡ r ∷ rs → Sound (taken r rs o)
+pub take_sound : (o : Outgoing) (r : FrameRecord) (rs : List FrameRecord) → Sound o → o.frames ≡ r ∷ rs → Sound (after_take r rs o)
 take_sound o r rs k e =
     let each : EachWaits (r ∷ rs) = rw e at k.each in
     let counted : o.waiting ≡ left r.kind + left_all rs = rw e at k.counted in

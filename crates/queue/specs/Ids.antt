@@ -40,13 +40,13 @@ published id i =
     }
 
 -- a time plus a delay, none without a delay
-abbrev pub after : Option ℕ → ℕ → Option ℕ
-after None time = None
-after (Some delay) time = Some (deadline_with_clamp time delay)
+abbrev pub delayed : Option ℕ → ℕ → Option ℕ
+delayed None time = None
+delayed (Some delay) time = Some (deadline_with_clamp time delay)
 
 -- an entry's deadline is the time of its send plus the send timeout
 abbrev pub send_deadline : Option ℕ → OpSend → Option ℕ
-send_deadline timeout op = after timeout op.publish.enqueued_at
+send_deadline timeout op = delayed timeout op.publish.enqueued_at
 
 -- that of the front entry, none without an entry or a timeout
 abbrev pub front_deadline : Option ℕ → List OpSend → Option ℕ
@@ -60,7 +60,7 @@ next_send_deadline q = front_deadline q.settings.delays.send_timeout q.pending
 unfoldable pub next_batch_deadline : Queue → Option ℕ
 next_batch_deadline q =
     let b = q.out.batch in
-    pick (eqb b.len 0) None (after q.settings.delays.batching_max_publish_delay b.first_added_at)
+    pick (eqb b.len 0) None (delayed q.settings.delays.batching_max_publish_delay b.first_added_at)
 
 -- a deadline that is there has passed
 abbrev pub elapsed : ℕ → Option ℕ → Bool

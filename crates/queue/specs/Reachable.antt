@@ -55,15 +55,15 @@ records (way.Single before) = one before + 1
 records (way.Chunked before size count) = one before + 1
 
 -- there is room for so many records, held messages and pending entries more
-pub record Room (q : Queue) (newRecords newHeld newPending : ℕ) : Type 0 where
+pub record HasRoom (q : Queue) (newRecords newHeld newPending : ℕ) : Type 0 where
   pub frames : length q.out.frames + newRecords ≤ 1024
   pub held : length q.out.held + newHeld ≤ 512
   pub pending : length q.pending + newPending ≤ 256
 
 -- a call that is not refused finds room for all that it pushes
 abbrev pub FindsRoom : List ℕ → Queue → Call → Type 0
-FindsRoom store q (send a) = (w : Way) → plan (length store) a q ≡ go w → Room q (records w) (one (joins w)) (one (not (is_too_large w)))
-FindsRoom store q (flush publish_time) = (flush_batch publish_time q).1 ≡ done 1 → Room q 1 0 0
+FindsRoom store q (send a) = (w : Way) → plan (length store) a q ≡ go w → HasRoom q (records w) (one (joins w)) (one (not (is_too_large w)))
+FindsRoom store q (flush publish_time) = (flush_batch publish_time q).1 ≡ done 1 → HasRoom q 1 0 0
 FindsRoom store q (take room) = Unit {0}
 FindsRoom store q (receipt id message_id) = Unit {0}
 FindsRoom store q (send_error id code) = Unit {0}
@@ -75,9 +75,9 @@ FindsRoom store q close = Unit {0}
 FindsRoom store q (query k) = Unit {0}
 FindsRoom store q (drain room) = Unit {0}
 FindsRoom store q (snapshot droppedRoom replayRoom) = Unit {0}
-FindsRoom store q (replay entries) = (replay_snapshots entries q).1 ≡ done tt → Room q (length (framed_of entries)) 0 (length entries)
+FindsRoom store q (replay entries) = (replay_snapshots entries q).1 ≡ done tt → HasRoom q (length (framed_of entries)) 0 (length entries)
 FindsRoom store q resend =
-    (frames : ℕ) → (replay_pending_outbound q).1 ≡ done frames → Room q (length (framed_of (unborne q.out.frames q.pending))) 0 0
+    (frames : ℕ) → (replay_pending_outbound q).1 ≡ done frames → HasRoom q (length (framed_of (unborne q.out.frames q.pending))) 0 0
 
 abbrev pub ReachableRule : Type 0
 ReachableRule =

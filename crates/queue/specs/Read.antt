@@ -36,8 +36,8 @@ frame_message f =
     }
 
 -- the payloads joined
-abbrev pub joined : Message → List ℕ → Message
-joined m bytes =
+abbrev pub with_bytes : Message → List ℕ → Message
+with_bytes m bytes =
     record {
       payload = m.payload ++ bytes;
       partition_key = m.partition_key;
@@ -81,7 +81,7 @@ begin f (Some count) (Some k) chunks = None
 -- a frame inside a chunked message: no message count, the same sequence id and chunk count, and the next chunk id
 abbrev pub go_on : SequenceId → ℕ → ℕ → Message → Frame → Option ℕ → Option ℕ → Option ℕ → Reading
 go_on id n k m f None (Some j) (Some c) =
-    pick (eqb f.metadata.sequence_id.0 id.0 && eqb c n && eqb j k) (chunks_read id n (k + 1) (joined m f.payload)) None
+    pick (eqb f.metadata.sequence_id.0 id.0 && eqb c n && eqb j k) (chunks_read id n (k + 1) (with_bytes m f.payload)) None
 go_on id n k m f None (Some j) None = None
 go_on id n k m f None None chunks = None
 go_on id n k m f (Some count) j chunks = None

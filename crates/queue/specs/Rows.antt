@@ -52,8 +52,8 @@ abbrev fresh : Queue
 fresh = new_queue (record { 0 = 7 })
 
 -- a send of the first bytes of the store, with nothing else set
-abbrev sending : ℕ → Sending
-sending len =
+abbrev send_of : ℕ → Sending
+send_of len =
     record {
       message = record {
         payload = record { start = 0; len = len };
@@ -88,7 +88,7 @@ quote = 0x71 ∷ 0x75 ∷ 0x6f ∷ 0x74 ∷ 0x65 ∷ []
 -- n sends of `quote` that join, under ids from this one on: the batch that is then open, and the frames once it is flushed
 module _ (first n : ℕ) where
   abbrev joining : List Call
-  joining = initial_id first ∷ set (BatchingEnabled true) ∷ replicate n (send (sending 5))
+  joining = initial_id first ∷ set (BatchingEnabled true) ∷ replicate n (send (send_of 5))
 
   abbrev open_batch : BatchContainer
   open_batch = (after quote fresh joining).out.batch
@@ -105,10 +105,10 @@ module _ (limit len : ℕ) where
   chunking = set (ChunkingEnabled true) ∷ set (MaxMessageSize limit) ∷ []
 
   abbrev chunk_answer : Answer Decision
-  chunk_answer = (queue_send len (sending len) (after store fresh chunking)).1
+  chunk_answer = (queue_send len (send_of len) (after store fresh chunking)).1
 
   abbrev chunk_frames : List Frame
-  chunk_frames = frames store (chunking ++ send (sending len) ∷ [])
+  chunk_frames = frames store (chunking ++ send (send_of len) ∷ [])
 
 -- ── what is seen of them ──
 

@@ -26,13 +26,13 @@ found id [] = None
 found id (op ∷ l) = pick (bears id op) (Some op) (found id l)
 
 -- the entries without that one
-abbrev pub without : ℕ → List OpSend → List OpSend
-without id [] = []
-without id (op ∷ l) = pick (bears id op) l (op ∷ without id l)
+abbrev pub without_id : ℕ → List OpSend → List OpSend
+without_id id [] = []
+without_id id (op ∷ l) = pick (bears id op) l (op ∷ without_id id l)
 
 -- it leaves the queue, and the id the index: of two entries with one id the other finds no receipt
 abbrev pub settled : ℕ → List OpSend → List OpSend
-settled id l = map (unmark id) (without id l)
+settled id l = map (unmark id) (without_id id l)
 
 -- 11, id not answerable; else the entry found settles
 abbrev pub settle : {A : Type 0} → ℕ → (OpSend → A) → (Queue → Queue) → Queue → Bool → Option OpSend → Outcome A

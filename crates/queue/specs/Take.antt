@@ -34,8 +34,8 @@ holds Single = 0
 holds (Batch b) = b.num_messages
 holds (Chunked c) = 0
 
-abbrev pub taken : FrameRecord → List FrameRecord → Outgoing → Outgoing
-taken r rs o =
+abbrev pub after_take : FrameRecord → List FrameRecord → Outgoing → Outgoing
+after_take r rs o =
     record {
       frames = rest_of r r.kind rs;
       waiting = o.waiting - 1;
@@ -49,7 +49,7 @@ take_from store room q [] = refuse 10 q
 take_from store room q (r ∷ rs) =
     let f = first_frame store q.handle r r.kind q.out.held in
     pick (frame_in (length store) r r.kind q.out.held)
-    (pick (ltb room (length f.payload)) (refuse 9 q) (with_out (taken r rs q.out) q, done f))
+    (pick (ltb room (length f.payload)) (refuse 9 q) (with_out (after_take r rs q.out) q, done f))
     (refuse 2 q)
 
 -- `next_outbound_frame` with this store and a buffer of `room` bytes

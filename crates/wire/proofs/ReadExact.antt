@@ -12,7 +12,7 @@ use lib.Dec.{eqb}
 use Rattle.wire.specs.Proto.{Byte, varint, key, varint_field, bytes_field, bool_number, bool_field, optional, be32}
 use Rattle.wire.specs.Single.{SingleMetadata, single}
 use Rattle.wire.specs.Batch.{Item, item, items, All}
-use Rattle.wire.specs.Read.{Got, bind, and_then, whole, cons?, read_varint, read_below, read_count, read_bytes, read_uint64, read_size, read_bool, after_key, read_field, present, read_optional, read_fields, read_single, read_be32, with_payload, read_item, read_items}
+use Rattle.wire.specs.Read.{Got, bind, got_then, got_all, cons?, read_varint, read_below, read_count, read_bytes, read_uint64, read_size, read_bool, after_key, read_field, present, read_optional, read_fields, read_single, read_be32, with_payload, read_item, read_items}
 use Rattle.wire.proofs.VarintLaws.{small, large}
 
 -- ── how a reading came about ──
@@ -20,7 +20,7 @@ use Rattle.wire.proofs.VarintLaws.{small, large}
 pub not_read : {A : Type 0} {x : A} {P : Type 0} → None ≡ Some x → P
 not_read e = let z : ◌≡◌ {A = ℕ} 0 1 = cc in absurd (omega arith)
 
-pub then_read : {A B P : Type 0} (g : Got A) (f : A → List ℕ → Option B) (y : B) → and_then g f ≡ Some y
+pub then_read : {A B P : Type 0} (g : Got A) (f : A → List ℕ → Option B) (y : B) → got_then g f ≡ Some y
     → ((x : A) (r : List ℕ) → g ≡ Some (x, r) → f x r ≡ Some y → P) → P
 then_read None f y e on = not_read e
 then_read (Some p) f y e on = on p.0 p.1 refl e
@@ -114,14 +114,14 @@ exact_part tag bs x r h e = grind (arith, common_steps, exact_bytes)
 module _ {A B P : Type 0} (tag wire : ℕ) (value : List ℕ → Got A) (field : A → List ℕ)
     (exact : (bs : List ℕ) (x : A) (r : List ℕ) → All Byte bs → value bs ≡ Some (x, r) → key tag wire ++ bs ≡ field x ++ r)
     (bs : List ℕ) (h : All Byte bs) (y : B) where
-  then_field : (f : A → List ℕ → Option B) → and_then (read_field tag wire value bs) f ≡ Some y
+  then_field : (f : A → List ℕ → Option B) → got_then (read_field tag wire value bs) f ≡ Some y
       → ((x : A) (r : List ℕ) → bs ≡ field x ++ r → All Byte r → f x r ≡ Some y → P) → P
   then_field f e on =
       then_read (read_field tag wire value bs) f y e (λ x r g t.
       let q = exact_field tag wire value field exact bs r h x g in
       on x r q (follows (field x) r q h) t)
 
-  then_optional : (f : Option A → List ℕ → Option B) → and_then (read_optional tag wire value bs) f ≡ Some y
+  then_optional : (f : Option A → List ℕ → Option B) → got_then (read_optional tag wire value bs) f ≡ Some y
       → ((x : Option A) (r : List ℕ) → bs ≡ optional field x ++ r → All Byte r → f x r ≡ Some y → P) → P
   then_optional f e on =
       then_read (read_optional tag wire value bs) f y e (λ x r g t.
@@ -146,7 +146,7 @@ pub exact_single : (bs : List ℕ) (m : SingleMetadata) → All Byte bs → read
 unfolding read_single
 exact_single bs m h e = go (read_fields bs) refl e
   where
-    go : (g : Got SingleMetadata) → read_fields bs ≡ g → whole g ≡ Some m → bs ≡ single m
+    go : (g : Got SingleMetadata) → read_fields bs ≡ g → got_all g ≡ Some m → bs ≡ single m
     go None k e = not_read e
     go (Some p) k e = let q = exact_fields bs p.0 p.1 h k in grind (arith, common_steps)
 

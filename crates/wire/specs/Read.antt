@@ -13,15 +13,15 @@ abbrev pub bind : {A B : Type 0} → Option A → (A → Option B) → Option B
 bind None f = None
 bind (Some x) f = f x
 
-abbrev pub and_then : {A B : Type 0} → Got A → (A → List ℕ → Option B) → Option B
-and_then None f = None
-and_then (Some (x, r)) f = f x r
+abbrev pub got_then : {A B : Type 0} → Got A → (A → List ℕ → Option B) → Option B
+got_then None f = None
+got_then (Some (x, r)) f = f x r
 
 -- all the bytes are used up
-abbrev pub whole : {A : Type 0} → Got A → Option A
-whole None = None
-whole (Some (x, [])) = Some x
-whole (Some (x, b ∷ r)) = None
+abbrev pub got_all : {A : Type 0} → Got A → Option A
+got_all None = None
+got_all (Some (x, [])) = Some x
+got_all (Some (x, b ∷ r)) = None
 
 abbrev pub cons? : {A : Type 0} → A → Option (List A) → Option (List A)
 cons? x None = None
@@ -40,7 +40,7 @@ read_varint (b ∷ bs) = elim (ltb b 128) as (λ _. Got ℕ) [ true ↦ Some (b,
 
 -- a varint of a number below a limit
 unfoldable pub read_below : ℕ → List ℕ → Got ℕ
-read_below limit bs = and_then (read_varint bs) (λ v r. pick (ltb v limit) (Some (v, r)) None)
+read_below limit bs = got_then (read_varint bs) (λ v r. pick (ltb v limit) (Some (v, r)) None)
 
 -- so many bytes
 unfoldable pub read_count : ℕ → List ℕ → Got (List ℕ)
@@ -48,7 +48,7 @@ read_count n bs = pick (leb n (length bs)) (Some (take n bs, drop n bs)) None
 
 -- the values of the fields: a length with its bytes, a uint64, an int32 that is not negative, a bool
 unfoldable pub read_bytes : List ℕ → Got (List ℕ)
-read_bytes bs = and_then (read_varint bs) read_count
+read_bytes bs = got_then (read_varint bs) read_count
 
 abbrev pub read_uint64 : List ℕ → Got ℕ
 read_uint64 bs = read_below (2 ^ 64) bs
@@ -57,11 +57,11 @@ abbrev pub read_size : List ℕ → Got ℕ
 read_size bs = read_below (2 ^ 31) bs
 
 abbrev pub read_bool : List ℕ → Got Bool
-read_bool bs = and_then (read_below 2 bs) (λ v r. Some (eqb v 1, r))
+read_bool bs = got_then (read_below 2 bs) (λ v r. Some (eqb v 1, r))
 
 -- what follows a field's key, where that key comes next
 unfoldable pub after_key : ℕ → ℕ → List ℕ → Option (List ℕ)
-after_key tag wire bs = and_then (read_varint bs) (λ k r. pick (eqb k (tag * 8 + wire)) (Some r) None)
+after_key tag wire bs = got_then (read_varint bs) (λ k r. pick (eqb k (tag * 8 + wire)) (Some r) None)
 
 -- a field that must be there
 abbrev pub read_field : {A : Type 0} → ℕ → ℕ → (List ℕ → Got A) → List ℕ → Got A
@@ -70,7 +70,7 @@ read_field tag wire value bs = bind (after_key tag wire bs) value
 -- one that may be absent: it is there if its key comes next
 abbrev pub present : {A : Type 0} → (List ℕ → Got A) → List ℕ → Option (List ℕ) → Got (Option A)
 present value bs None = Some (None, bs)
-present value bs (Some r) = and_then (value r) (λ x rest. Some (Some x, rest))
+present value bs (Some r) = got_then (value r) (λ x rest. Some (Some x, rest))
 
 abbrev pub read_optional : {A : Type 0} → ℕ → ℕ → (List ℕ → Got A) → List ℕ → Got (Option A)
 read_optional tag wire value bs = present value bs (after_key tag wire bs)
@@ -79,12 +79,12 @@ read_optional tag wire value bs = present value bs (after_key tag wire bs)
 
 unfoldable pub read_fields : List ℕ → Got SingleMetadata
 read_fields bs =
-    and_then (read_optional 2 2 read_bytes bs) (λ partition_key r₁.
-    and_then (read_field 3 0 read_size r₁) (λ payload_size r₂.
-    and_then (read_optional 5 0 read_uint64 r₂) (λ event_time r₃.
-    and_then (read_optional 7 2 read_bytes r₃) (λ ordering_key r₄.
-    and_then (read_optional 9 0 read_bool r₄) (λ null_value r₅.
-    and_then (read_optional 10 0 read_bool r₅) (λ null_partition_key r₆.
+    got_then (read_optional 2 2 read_bytes bs) (λ partition_key r₁.
+    got_then (read_field 3 0 read_size r₁) (λ payload_size r₂.
+    got_then (read_optional 5 0 read_uint64 r₂) (λ event_time r₃.
+    got_then (read_optional 7 2 read_bytes r₃) (λ ordering_key r₄.
+    got_then (read_optional 9 0 read_bool r₄) (λ null_value r₅.
+    got_then (read_optional 10 0 read_bool r₅) (λ null_partition_key r₆.
     Some (
       record {
         partition_key = partition_key;
@@ -98,7 +98,7 @@ read_fields bs =
     )))))))
 
 unfoldable pub read_single : List ℕ → Option SingleMetadata
-read_single bs = whole (read_fields bs)
+read_single bs = got_all (read_fields bs)
 
 -- ── the items of a batch ──
 
@@ -123,13 +123,13 @@ with_payload m payload =
 -- a length, that many bytes of single metadata, and a payload of the size that it says
 unfoldable pub read_item : List ℕ → Got Item
 read_item bs =
-    and_then (read_be32 bs) (λ n r₁.
-    and_then (read_count n r₁) (λ head r₂.
+    got_then (read_be32 bs) (λ n r₁.
+    got_then (read_count n r₁) (λ head r₂.
     bind (read_single head) (λ m.
-    and_then (read_count m.payload_size r₂) (λ payload r₃. Some (with_payload m payload, r₃)))))
+    got_then (read_count m.payload_size r₂) (λ payload r₃. Some (with_payload m payload, r₃)))))
 
 -- so many items, filling the payload
 unfoldable pub read_items : ℕ → List ℕ → Option (List Item)
 read_items zero [] = Some []
 read_items zero (b ∷ bs) = None
-read_items (suc n) bs = and_then (read_item bs) (λ i r. cons? i (read_items n r))
+read_items (suc n) bs = got_then (read_item bs) (λ i r. cons? i (read_items n r))

@@ -1,7 +1,7 @@
 -- The text form of a uuid: 16 bytes become 36 lowercase characters, 8-4-4-4-12 (document 01, 'producer.rs: sends').
 use Rattle.std.specs.Prelude.{ℕ, zero, suc, ◌+◌, ◌-◌, ◌*◌, ◌/◌, ◌%◌, List, [], ◌∷◌, ◌++◌, Bool, ◌&&◌, ◌||◌, take, drop, ltb, leb, eqb, None, Option, Some}
 use Rattle.laws.specs.Choice.{pick}
-use Rattle.wire.specs.Read.{Got, bind, and_then, cons?}
+use Rattle.wire.specs.Read.{Got, bind, got_then, cons?}
 
 -- '0' to '9' are 48 to 57, 'a' to 'f' are 97 to 102
 abbrev pub hex_digit : ℕ → ℕ
@@ -74,7 +74,7 @@ unfoldable pub read_text : ℕ → ℕ → List ℕ → Option (List ℕ)
 read_text zero i [] = Some []
 read_text zero i (c ∷ cs) = None
 read_text (suc n) i cs =
-    bind (read_dash i cs) (λ r. and_then (read_hex r) (λ b rest. cons? b (read_text n (suc i) rest)))
+    bind (read_dash i cs) (λ r. got_then (read_hex r) (λ b rest. cons? b (read_text n (suc i) rest)))
 
 unfoldable pub read_uuid : List ℕ → Option (List ℕ)
 read_uuid text = read_text 16 0 text
