@@ -1,5 +1,6 @@
 // One operation through the public methods, with the state by value. No call is inlined into another: the frames of all of
-// them together would need more stack than a main thread has.
+// them together would need more stack than a main thread has. The state is stored before the answer is put, so that the
+// compiler sees that nothing comes between.
 ghost use Rattle.std.specs.Prelude.{◌≤◌, length};
 ghost use Rattle.script.specs.Output.{Writes};
 
@@ -20,20 +21,23 @@ fn call_send(s: &mut ProducerState, task: Task, out: &mut Output)
 {
     let a = task.sending();
     let lent = task.lent_to_send();
-    let r = if task.call == Call::QueueSendReserved {
-        s.queue_send_reserved(
+    let answer = if task.call == Call::QueueSendReserved {
+        let r = s.queue_send_reserved(
             lent,
             a.message,
             a.reservation,
             a.uuid,
             a.publish_time,
             a.now,
-        )
+        );
+        *s = r.state;
+        r.answer
     } else {
-        s.queue_send(lent, a.message, a.uuid, a.publish_time, a.now)
+        let r = s.queue_send(lent, a.message, a.uuid, a.publish_time, a.now);
+        *s = r.state;
+        r.answer
     };
-    out.put((task.call, r.answer));
-    *s = r.state;
+    out.put((task.call, answer));
 }
 
 #[inline(never)]
@@ -41,8 +45,8 @@ fn call_flush(s: &mut ProducerState, task: Task, out: &mut Output)
     ensures { Writes out.old out.new }
 {
     let r = s.flush_batch(task.arguments.get(), task.arguments.behind(8).get());
-    out.put((task.call, r.answer));
     *s = r.state;
+    out.put((task.call, r.answer));
 }
 
 #[inline(never)]
@@ -50,8 +54,8 @@ fn call_receipt(s: &mut ProducerState, task: Task, out: &mut Output)
     ensures { Writes out.old out.new }
 {
     let r = s.apply_receipt(task.arguments.get());
-    out.put((task.call, r.answer.map(|(op, id)| (id, op))));
     *s = r.state;
+    out.put((task.call, r.answer.map(|(op, id)| (id, op))));
 }
 
 #[inline(never)]
@@ -59,8 +63,8 @@ fn call_error(s: &mut ProducerState, task: Task, out: &mut Output)
     ensures { Writes out.old out.new }
 {
     let r = s.apply_send_error(task.arguments.get());
-    out.put((task.call, r.answer.map(|(op, error)| (error, op))));
     *s = r.state;
+    out.put((task.call, r.answer.map(|(op, error)| (error, op))));
 }
 
 #[inline(never)]
@@ -76,8 +80,8 @@ fn call_name(s: &mut ProducerState, task: Task, out: &mut Output)
     ensures { Writes out.old out.new }
 {
     let r = s.set_name(task.name());
-    out.put((task.call, r.answer));
     *s = r.state;
+    out.put((task.call, r.answer));
 }
 
 #[inline(never)]
@@ -85,8 +89,8 @@ fn call_set(s: &mut ProducerState, task: Task, out: &mut Output)
     ensures { Writes out.old out.new }
 {
     let r = s.set(task.setting());
-    out.put((task.call, r.answer));
     *s = r.state;
+    out.put((task.call, r.answer));
 }
 
 #[inline(never)]
@@ -102,8 +106,8 @@ fn call_resend(s: &mut ProducerState, task: Task, out: &mut Output)
     ensures { Writes out.old out.new }
 {
     let r = s.replay_pending_outbound();
-    out.put((task.call, r.answer));
     *s = r.state;
+    out.put((task.call, r.answer));
 }
 
 #[inline(never)]

@@ -37,12 +37,8 @@ impl InPlace {
     fn send(&mut self, task: Task, out: &mut Output)
         ensures { Writes out.old out.new }
     {
-        let d = self
-            .state
-            .core
-            .plan_send(task.lent_to_send().len(), task.sending());
-        out.put((task.call, d.answer));
-        self.state.apply(d);
+        let answer = self.state.send(task.lent_to_send(), task.sending());
+        out.put((task.call, answer));
     }
 
     fn flush(&mut self, task: Task, out: &mut Output)

@@ -67,13 +67,13 @@ pub(crate) fn call_drain(s: &mut ProducerState, task: Task, out: &mut Output)
     if task.call == Call::DrainTimedOutSends {
         let n = room_at(task.arguments.behind(8));
         let r = s.drain_timed_out_sends(task.arguments.get(), &mut table[..n]);
-        put_drained(out, task.call, &table[..n], r.answer);
         *s = r.state;
+        put_drained(out, task.call, &table[..n], r.answer);
     } else {
         let n = room_at(task.arguments);
         let r = s.drain_pending_sends(&mut table[..n]);
-        put_drained(out, task.call, &table[..n], r.answer);
         *s = r.state;
+        put_drained(out, task.call, &table[..n], r.answer);
     }
 }
 

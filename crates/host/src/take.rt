@@ -70,6 +70,6 @@ pub(crate) fn call_take(s: &mut ProducerState, task: Task, out: &mut Output)
     let lent = task.lent_to_take();
     let buffer = buffer_of(task, out);
     let r = s.next_outbound_frame(lent, &mut out.bytes[buffer.start..buffer.end]);
-    put_taken(out, buffer, lent, r.answer);
     *s = r.state;
+    put_taken(out, buffer, lent, r.answer);
 }

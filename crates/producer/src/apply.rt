@@ -39,7 +39,7 @@ impl ProducerState {
     }
 
     // The scalars last: what reads them next need not wait for the records.
-    pub fn apply(&mut self, d: SendDelta)
+    pub(crate) fn apply(&mut self, d: SendDelta)
         ensures { self.new ≡ applied d self.old }
     {
         self.store_frame(d.first);

@@ -16,6 +16,16 @@ use types::message::OutgoingMessage;
 
 impl ProducerState {
     // An accepted send takes the reservation; a refused one leaves it with the caller.
+    pub fn send(&mut self, store: &[u8], a: Sending) -> Result<SendDecision, ProducerError>
+        ensures meets { Meets store.now (send (sending a.message a.reservation.bytes a.uuid a.publish_time a.now)) self.old self.new (told_send result) }
+        ensures kept { KeptSend a.message (view self.old) (told_send result) self.old self.new }
+    {
+        let d = self.core.plan_send(store.len(), a);
+        self.apply(d);
+        d.answer
+    }
+
+    // The same for a state by value.
     pub fn queue_send_reserved(
         mut self,
         store: &[u8],
@@ -35,10 +45,8 @@ impl ProducerState {
             publish_time,
             now: time,
         };
-        let d = self.core.plan_send(store.len(), a);
-        self.apply(d);
         Answered {
-            answer: d.answer,
+            answer: self.send(store, a),
             state: self,
         }
     }
