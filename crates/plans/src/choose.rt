@@ -38,7 +38,8 @@ impl Core {
     ) -> Result<Way, ProducerError>
         ensures { result ≡ chosen store_len m reservation.bytes self }
     {
-        if self.settings.switches.closed {
+        let closed = self.settings.switches.closed;
+        if closed {
             Err(ProducerError::Closed)
         } else if !message_in(store_len, m) {
             Err(ProducerError::PartOutside)

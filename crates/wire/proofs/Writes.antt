@@ -1,6 +1,6 @@
 -- What a run of writes leaves of a buffer: the bytes written, and the rest as it was.
 use Prim.Native.Nat.{ℕ, ◌+◌, ◌-◌, ◌≤◌, ◌<◌}
-use mathlib.Core.Path.{◌≡◌, refl, ◌∙◌}
+use mathlib.Core.Path.{◌≡◌, refl, sym, ◌∙◌}
 use mathlib.Core.List.{List, [], ◌∷◌, ◌++◌, append_assoc}
 use native.Mathlib.Omega.{arith}
 use lib.ListN.{length, take, drop, set}
@@ -23,6 +23,10 @@ put_byte d i b h = record { room = omega arith; next = refl; left = sets-eq (b �
 -- what is written in place leaves the length
 pub same : {d₀ d a : List ℕ} {n : ℕ} → Puts a d₀ d n → length d ≡ length d₀
 same v = grind (arith, common_steps)
+
+-- the same answer, worked out otherwise
+pub answered : {d₀ d a : List ℕ} {n m : ℕ} → Puts a d₀ d n → n ≡ m → Puts a d₀ d m
+answered v e = record { room = v.room; count = sym e ∙ v.count; left = v.left }
 
 -- one run of bytes after another
 pub next : {d₀ d₁ d₂ a b : List ℕ} {n m : ℕ} → Puts a d₀ d₁ n → PutsAt b n d₁ d₂ m → Puts (a ++ b) d₀ d₂ m

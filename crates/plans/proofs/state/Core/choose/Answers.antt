@@ -20,23 +20,23 @@ by n m reserved c e1 q2 e2 q3 e3 =
     let f3 = ap not (sym q3) ∙ e3 in
     sym (λ i. pick (e1 i) (Err Closed) (pick (f2 i) (Err PartOutside) (pick (f3 i) (Err OverBound) (chosen_within m c))))
 
-pub returns-then-self : goal.returns-then-self
-returns-then-self c =
+pub returns-then-closed : goal.returns-then-closed
+returns-then-closed c =
     let a = c.args in
-    by a.store_len a.m a.reservation.bytes a.self c.if-self.true refl refl refl refl
+    by a.store_len a.m a.reservation.bytes a.self c.if-closed.true refl refl refl refl
 
 pub returns-then-not-message_in : goal.returns-then-not-message_in
 returns-then-not-message_in c =
     let a = c.args in
-    by a.store_len a.m a.reservation.bytes a.self c.if-self.false c.message_in.ensures (ap not c.if-not-message_in.true) refl refl
+    by a.store_len a.m a.reservation.bytes a.self c.if-closed.false c.message_in.ensures (ap not c.if-not-message_in.true) refl refl
 
 pub returns-then-not-within_bounds : goal.returns-then-not-within_bounds
 returns-then-not-within_bounds c =
     let a = c.args in
-    by a.store_len a.m a.reservation.bytes a.self c.if-self.false c.message_in.ensures (ap not c.if-not-message_in.false) c.within_bounds.ensures (ap not c.if-not-within_bounds.true)
+    by a.store_len a.m a.reservation.bytes a.self c.if-closed.false c.message_in.ensures (ap not c.if-not-message_in.false) c.within_bounds.ensures (ap not c.if-not-within_bounds.true)
 
 pub returns-else-not-within_bounds : goal.returns-else-not-within_bounds
 returns-else-not-within_bounds c =
     let a = c.args in
     c.choose_within.ensures
-    ∙ by a.store_len a.m a.reservation.bytes a.self c.if-self.false c.message_in.ensures (ap not c.if-not-message_in.false) c.within_bounds.ensures (ap not c.if-not-within_bounds.false)
+    ∙ by a.store_len a.m a.reservation.bytes a.self c.if-closed.false c.message_in.ensures (ap not c.if-not-message_in.false) c.within_bounds.ensures (ap not c.if-not-within_bounds.false)

@@ -1,6 +1,6 @@
 -- `script::write::Output::put_raw`: what was tested is that the bytes have room.
 use Rattle.std.proofs.Common.{◌≡◌, ◌+◌, ◌-◌, ◌≤◌, length, refl, arith}
-use Rattle.script.proofs.Outputs.{pasted}
+use Rattle.script.proofs.Outputs.{pasted, further}
 use Rattle.script.proofs.write.Output.put_raw.Goals as goal
 
 pub returns-then-bytes-self : goal.returns-then-bytes-self
@@ -12,5 +12,5 @@ returns-then-bytes-self c =
     let l : length c.copy_from_slice.new.self ≡ n = rw c.copy_from_slice.ensures.after refl in
     record {
       same_reference = refl;
-      wrote = rw e (pasted c.args.self.now.bytes.now c.copy_from_slice.new.self at n h l);
+      wrote = further {m = at + n} (rw e (pasted c.args.self.now.bytes.now c.copy_from_slice.new.self at n h l)) (omega arith) (omega arith);
     }

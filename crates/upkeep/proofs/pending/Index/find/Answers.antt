@@ -1,5 +1,6 @@
 -- `upkeep::pending::Index::find`: no key before the place passed the test, and the loop stops at the first that does.
 use Rattle.std.proofs.Common.{◌≡◌, ℕ, ◌<◌, Bool, true, not, ◌&&◌, ◌||◌, eqb, List, length, get_or, sym, ap, ◌∙◌, arith, lit<}
+use Rattle.std.specs.Prelude.{Some}
 use Rattle.laws.specs.Ring.{slot}
 use Rattle.laws.proofs.Slots.{slot_below}
 use Rattle.laws.proofs.Loops.{missed_step, missed_hit, missed_all}
@@ -38,7 +39,8 @@ returns-then-bears c =
     let s = a.self in
     let is = s.ids.now in
     let ms = s.marks.now in
-    sym
+    ap (λ (k : ℕ). Some k) (omega arith)
+    ∙ sym
     (missed_hit 256 pos (wanted a.id a.any) (keys is ms) s.ring.head s.ring.len (len is ms s.full) _ c.loop-i.invariant (0, true) (omega arith)
     (test is ms s.full s.ring.head _ a.id a.any _ c.slot-at.ensures (sym c.bears.ensures ∙ c.if-bears.true)))
 
