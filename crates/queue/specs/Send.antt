@@ -18,6 +18,7 @@ use Rattle.types.specs.declared.message.OutgoingMessage.{OutgoingMessage}
 use Rattle.types.specs.declared.settings.ProducerSettings.{ProducerSettings}
 use Rattle.types.specs.declared.way.Way.{Way}
 use Rattle.types.specs.declared.way.Way.TheVariants.{TooLarge, Join, Single, Chunked}
+use Rattle.queue.specs.Sizes.{held_size, pending_size}
 use Rattle.queue.specs.Queue.{Queue, Outcome, Answer, refused, done, refuse, with_out}
 use Rattle.queue.specs.Ids.{assigned}
 use Rattle.queue.specs.Batch.{at_least_one, may_join, is_empty, is_full, same_txn, single_of, grown, push, counted, flushed, too_many}
@@ -125,9 +126,9 @@ module _ (n : ℕ) (a : Sending) (q : Queue) where
       (pick (not (message_in n a.message a.message.payload)) (no 2)
       (pick (not (within_bounds a.message a.reserved)) (no 3)
       (pick (too_many (pushes way) q) (no 4)
-      (pick (joins way && leb 512 (length q.out.held)) (no 5)
+      (pick (joins way && leb held_size (length q.out.held)) (no 5)
       (pick (is_too_large way) (go way)
-      (pick (leb 256 (length q.pending)) (no 7)
+      (pick (leb pending_size (length q.pending)) (no 7)
       (go way)))))))
 
 -- ── the send ──
@@ -170,7 +171,7 @@ accept op q =
       settings = q.settings;
       ids = assigned q.ids;
       counters = q.counters;
-      pending = onto 256 q.pending op;
+      pending = onto pending_size q.pending op;
       out = q.out;
     }
 
@@ -193,7 +194,7 @@ add_to_batch a q =
     (record {
       frames = o.frames;
       waiting = o.waiting;
-      held = onto 512 o.held (single_of a.message);
+      held = onto held_size o.held (single_of a.message);
       batch = grown a.message q.ids.next_sequence_id a.now o.batch;
     })
     (accept (entry a (pos 1) replay.Batched q) q)
