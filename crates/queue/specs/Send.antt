@@ -3,6 +3,7 @@ use Rattle.std.specs.Prelude.{ℕ, ◌+◌, ◌-◌, ◌*◌, ◌/◌, ◌^◌, 
 use Rattle.laws.specs.Choice.{pick}
 use Rattle.laws.specs.Lists.{onto}
 use Rattle.laws.specs.Numbers.{add_sat}
+use Rattle.types.specs.Bounds.{longest_payload, longest_key, longest_name}
 use Rattle.types.specs.MemoryLimit.{reservable}
 use Rattle.types.specs.Values.{part_in, maybe_in, up_to}
 use Rattle.types.specs.Empty.{empty_batch}
@@ -86,8 +87,9 @@ message_in n m payload =
 -- 3: payload up to 16,777,216, keys and schema version up to 1,024, message name up to 64, reservation up to 2^40 - 1
 abbrev pub within_bounds : OutgoingMessage → ℕ → Bool
 within_bounds m reserved =
-    leb m.payload.len 16777216 && up_to 1024 m.partition_key && up_to 1024 m.ordering_key && up_to 1024 m.schema_version
-    && leb m.producer_name.len 64 && reservable reserved
+    leb m.payload.len longest_payload
+    && up_to longest_key m.partition_key && up_to longest_key m.ordering_key && up_to longest_key m.schema_version
+    && leb m.producer_name.len longest_name && reservable reserved
 
 abbrev pub one : Bool → ℕ
 one flush = pick flush 1 0
