@@ -1,6 +1,7 @@
 -- What a state stands for: the queue of document 01. Every value of the struct is a state.
 use Rattle.std.specs.Prelude.{ℕ, not, List, [], ◌∷◌, ◌==◌}
 use Rattle.laws.specs.Ring.{ring}
+use Rattle.queue.specs.Sizes.{outbound_size, held_size, pending_size}
 use Rattle.queue.specs.Queue.{Queue}
 use Rattle.types.specs.declared.entry.OpSend.{OpSend}
 use Rattle.types.specs.declared.entry.Publish.{Publish}
@@ -29,11 +30,11 @@ view s =
       settings = c.settings;
       ids = c.ids;
       counters = c.counters;
-      pending = ring 256 (slots_of s) r.pending.head r.pending.len;
+      pending = ring pending_size (slots_of s) r.pending.head r.pending.len;
       out = record {
-        frames = ring 1024 s.outbound r.outbound.head r.outbound.len;
+        frames = ring outbound_size s.outbound r.outbound.head r.outbound.len;
         waiting = r.waiting;
-        held = ring 512 s.held r.held.head r.held.len;
+        held = ring held_size s.held r.held.head r.held.len;
         batch = c.batch;
       };
     }

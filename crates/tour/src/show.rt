@@ -31,7 +31,7 @@ impl Display for Ids<'_> {
     fn fmt<W: fmt::Write>(&self, f: &mut Formatter<W>) -> fmt::Result {
         let lowest = self.0.sequence_id.0;
         match self.0.highest_sequence_id {
-            Some(highest) => write!(f, "sequence ids {lowest} to {highest}"),
+            Some(SequenceId(highest)) => write!(f, "sequence ids {lowest} to {highest}"),
             None => write!(f, "sequence id {lowest}"),
         }
     }
