@@ -45,7 +45,7 @@ accepted p c =
     record {
       core = record c { ids = assigned c.ids; rings = record r { pending = longer_behind pending_size r.pending } };
       put = put_at (place_behind pending_size r.pending)
-          (record { sequence_id = record { 0 = c.ids.next_sequence_id }; answerable = true; publish = p });
+          (record { sequence_id = c.ids.next_sequence_id; answerable = true; publish = p });
     }
 
 -- a message more among those held

@@ -45,7 +45,7 @@ sequence_id n = record { 0 = n }
 abbrev ids : ℕ → ℤ → ℤ → Value
 ids next pushed published =
     sequence_ids
-    (record { next_sequence_id = next; last_sequence_id_pushed = pushed; last_sequence_id_published = published })
+    (record { next_sequence_id = sequence_id next; last_sequence_id_pushed = pushed; last_sequence_id_published = published })
 
 abbrev minus_one : ℤ
 minus_one = negsuc 0

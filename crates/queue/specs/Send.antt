@@ -139,7 +139,7 @@ module _ (n : ℕ) (a : Sending) (q : Queue) where
 abbrev pub entry : Sending → ℤ → Replay → Queue → OpSend
 entry a num_messages r q =
     record {
-      sequence_id = record { 0 = q.ids.next_sequence_id };
+      sequence_id = q.ids.next_sequence_id;
       answerable = true;
       publish = record {
         num_messages = num_messages;
@@ -197,7 +197,7 @@ add_to_batch a q =
       frames = o.frames;
       waiting = o.waiting;
       held = onto held_size o.held (single_of a.message);
-      batch = grown a.message q.ids.next_sequence_id a.now o.batch;
+      batch = grown a.message q.ids.next_sequence_id.0 a.now o.batch;
     })
     (accept (entry a (pos 1) replay.Batched q) q)
 

@@ -11,12 +11,12 @@ abbrev pub stats_of : Counters → ℕ → ProducerStats
 stats_of counters pending = record { counters = counters; pending_queue_size = min pending pending_size }
 
 abbrev pub both : ℕ → ℤ → SequenceIds
-both next n = record { next_sequence_id = next; last_sequence_id_pushed = n; last_sequence_id_published = n }
+both next n = record { next_sequence_id = record { 0 = next }; last_sequence_id_pushed = n; last_sequence_id_published = n }
 
 abbrev pub only_next : ℕ → SequenceIds → SequenceIds
 only_next next i =
     record {
-      next_sequence_id = next;
+      next_sequence_id = record { 0 = next };
       last_sequence_id_pushed = i.last_sequence_id_pushed;
       last_sequence_id_published = i.last_sequence_id_published;
     }

@@ -31,19 +31,19 @@ pub fn new_ids() -> SequenceIds
     ensures { result ≡ new_ids }
 {
     SequenceIds {
-        next_sequence_id: 0,
+        next_sequence_id: SequenceId(0),
         last_sequence_id_pushed: -1,
         last_sequence_id_published: -1,
     }
 }
 
 // The next id. Above 0 the pushed and the published number go with it.
-pub fn initial_ids(mut ids: SequenceIds, next: u64) -> SequenceIds
-    ensures { result ≡ initial_ids next ids }
+pub fn initial_ids(mut ids: SequenceIds, next: SequenceId) -> SequenceIds
+    ensures { result ≡ initial_ids next.0 ids }
 {
     ids.next_sequence_id = next;
-    if 0 < next {
-        let before = saturating_sub_one(signed_of(next));
+    if 0 < next.0 {
+        let before = saturating_sub_one(signed_of(next.0));
         ids.last_sequence_id_pushed = before;
         ids.last_sequence_id_published = before;
     }
