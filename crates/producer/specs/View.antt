@@ -5,13 +5,14 @@ use Rattle.queue.specs.Sizes.{outbound_size, held_size, pending_size}
 use Rattle.queue.specs.Queue.{Queue}
 use Rattle.types.specs.declared.entry.OpSend.{OpSend}
 use Rattle.types.specs.declared.entry.Publish.{Publish}
+use Rattle.types.specs.declared.types.SequenceId.{SequenceId}
 use Rattle.producer.specs.declared.state.ProducerState.{ProducerState}
 
 -- a pending entry is put together from its id, its mark and what was sent
-abbrev pub entry_of : ℕ → ℕ → Publish → OpSend
-entry_of id mark p = record { sequence_id = record { 0 = id }; answerable = not (mark == 0); publish = p }
+abbrev pub entry_of : SequenceId → ℕ → Publish → OpSend
+entry_of id mark p = record { sequence_id = id; answerable = not (mark == 0); publish = p }
 
-abbrev pub entries : List ℕ → List ℕ → List Publish → List OpSend
+abbrev pub entries : List SequenceId → List ℕ → List Publish → List OpSend
 entries [] ms ps = []
 entries (i ∷ is) [] ps = []
 entries (i ∷ is) (m ∷ ms) [] = []
