@@ -4,6 +4,7 @@ use crate::words::{Given, Mark, Printed, Txn, bytes, messages};
 use std::fmt::{self, Display, Formatter};
 use std::io;
 use types::outbound::{MessageMetadata, OutboundFrame};
+use types::types::SequenceId;
 
 #[derive(Clone, Copy)]
 struct Kind<'a>(&'a MessageMetadata);
