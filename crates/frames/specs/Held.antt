@@ -2,7 +2,8 @@
 use Rattle.std.specs.Prelude.{List}
 use Rattle.laws.specs.Ring.{ring}
 use Rattle.types.specs.declared.message.SingleMessage.{SingleMessage}
+use Rattle.queue.specs.Sizes.{held_size}
 use Rattle.frames.specs.declared.held.Held.{Held}
 
 abbrev pub held_of : Held → List SingleMessage
-held_of h = ring 512 h.messages.now h.ring.head h.ring.len
+held_of h = ring held_size h.messages.now h.ring.head h.ring.len

@@ -14,13 +14,14 @@ use Rattle.types.specs.declared.message.Part.{Part}
 use Rattle.types.specs.declared.outbound.FrameName.{FrameName}
 use Rattle.types.specs.declared.outbound.FrameName.TheVariants.{Own, Producer}
 use Rattle.types.specs.declared.types.ProducerHandle.{ProducerHandle}
+use Rattle.types.specs.declared.types.SequenceId.{SequenceId}
 use Rattle.types.specs.declared.outbound.OutboundFrame.{OutboundFrame}
 
 -- the message's own name, and the producer's when that is empty
 abbrev pub name_out : Part → ProducerName → FrameName
 name_out own producer = pick (eqb own.len 0) (Producer (clipped producer)) (Own own)
 
-abbrev pub present_if : Bool → ℕ → Option ℕ
+abbrev pub present_if : {A : Type 0} → Bool → A → Option A
 present_if there n = pick there (Some n) None
 
 abbrev pub message_out : ProducerHandle → FrameRecord → ℕ → Option Bool → Option ℕ → Option ℕ → Option ℕ → Option ℕ → Option (List ℕ) → ℕ → OutboundFrame
@@ -70,7 +71,7 @@ chunk_out handle r c len =
     message_out handle r 1 (Some true) (Some r.message.uncompressed_size) (Some c.next_chunk)
     (Some c.total_chunks) (Some r.message.payload.len) (Some (uuid_text r.uuid)) len
 
-abbrev pub batch_frame_out : ProducerHandle → FrameRecord → BatchFrame → Option ℕ → Option ℕ → ℕ → OutboundFrame
+abbrev pub batch_frame_out : ProducerHandle → FrameRecord → BatchFrame → Option SequenceId → Option ℕ → ℕ → OutboundFrame
 batch_frame_out handle r b highest size len =
     record {
       command = record {
@@ -108,9 +109,9 @@ batch_frame_out handle r b highest size len =
 
 abbrev pub batch_out : ProducerHandle → FrameRecord → BatchFrame → ℕ → OutboundFrame
 batch_out handle r b len =
-    let high = b.highest_sequence_id.0 in
+    let high = b.highest_sequence_id in
     let size = b.current_size_bytes in
-    batch_frame_out handle r b (present_if (ltb r.sequence_id.0 high) high) (present_if (ltb size (2 ^ 32)) size) len
+    batch_frame_out handle r b (present_if (ltb r.sequence_id.0 high.0) high) (present_if (ltb size (2 ^ 32)) size) len
 
 abbrev pub frame_out : ProducerHandle → FrameRecord → FrameKind → ℕ → OutboundFrame
 frame_out handle r Single len = single_out handle r len

@@ -4,6 +4,7 @@ use Rattle.laws.specs.Choice.{pick}
 use Rattle.laws.specs.Numbers.{add_sat}
 use Rattle.types.specs.Values.{part_in, maybe_in}
 use Rattle.wire.specs.Length.{stopped, item_length, batch_length}
+use Rattle.queue.specs.Sizes.{held_size}
 use Rattle.queue.specs.Frame.{single_in, all_in}
 use Rattle.types.specs.declared.frame.FrameRecord.{FrameRecord}
 use Rattle.types.specs.declared.frame.FrameKind.{FrameKind}
@@ -57,7 +58,7 @@ is_batch (Chunked c) = false
 
 abbrev pub held_count : FrameKind → ℕ → ℕ
 held_count Single held = 0
-held_count (Batch b) held = min b.num_messages (min held 512)
+held_count (Batch b) held = min b.num_messages (min held held_size)
 held_count (Chunked c) held = 0
 
 abbrev pub span_of : ℕ → FrameRecord → FrameKind → List SingleMessage → Option Span

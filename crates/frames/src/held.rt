@@ -3,19 +3,20 @@ ghost use Rattle.std.specs.Prelude.{◌≡◌, true, length};
 ghost use Rattle.wire.specs.Batch.{batch_payload};
 ghost use Rattle.wire.specs.Buffer.{Room, Puts};
 ghost use Rattle.queue.specs.Frame.{all_in};
+ghost use Rattle.rules.specs.declared.rings.TheConstants.Rings.{HELD};
 ghost use Rattle.frames.specs.Span.{batch_span};
 
 use crate::span::{Span, empty_span, with_item};
-use rules::rings::Ring;
+use rules::rings::{Ring, Rings};
 use types::message::SingleMessage;
 use wire::batch::put_item;
 
 // The messages of one batch frame, which are the first of the held ring.
 #[derive(Clone, Copy)]
 pub struct Held<'a> {
-    pub messages: &'a [SingleMessage; 512],
-    pub ring: Ring<512>,
-    ghost full: { length messages.now ≡ 512 },
+    pub messages: &'a [SingleMessage; Rings::HELD],
+    pub ring: Ring<{ Rings::HELD }>,
+    ghost full: { length messages.now ≡ HELD },
 }
 
 impl<'a> Held<'a> {

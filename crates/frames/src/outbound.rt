@@ -99,8 +99,8 @@ impl FrontFrame {
     {
         let front = self.front;
         let size = b.current_size_bytes as u64;
-        let high = b.highest_sequence_id.0;
-        let highest = (front.sequence_id.0 < high).then_some(high);
+        let high = b.highest_sequence_id;
+        let highest = (front.sequence_id.0 < high.0).then_some(high);
         let count = b.num_messages as u64;
         OutboundFrame {
             command: CommandSend {

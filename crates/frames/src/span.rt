@@ -5,7 +5,7 @@ ghost use Rattle.frames.specs.Span.{skip_of, piece_len, message_span, empty_span
 
 use crate::held::Held;
 use crate::inside::{message_inside, piece_inside, single_inside};
-use rules::rings::Ring;
+use rules::rings::{Ring, Rings};
 use types::frame::{FrameKind, FrameRecord};
 use types::message::SingleMessage;
 use wire::batch::item_len;
@@ -58,7 +58,7 @@ pub fn is_batch(kind: FrameKind) -> bool
 }
 
 // How many of the held messages go with the frame.
-pub fn held_count(kind: FrameKind, held: Ring<512>) -> usize
+pub fn held_count(kind: FrameKind, held: Ring<{ Rings::HELD }>) -> usize
     ensures { result ≡ held_count kind held.len }
 {
     match kind {

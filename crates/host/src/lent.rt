@@ -6,6 +6,7 @@ ghost use Rattle.script.specs.Output.{Writes};
 use crate::task::Task;
 use producer::state::ProducerState;
 use rules::blank::no_entry;
+use rules::rings::Rings;
 use script::answer::put_done;
 use script::operation::{Call, ENTRY, MOST_ENTRIES, entries};
 use script::read::Place;
@@ -41,11 +42,11 @@ fn written(place: Place) -> Table {
     }
 }
 
-// At most 256 entries are ever pending, so no more places are lent.
+// No more places are lent than entries can be pending.
 fn room_at(place: Place) -> usize
-    ensures { result ≤ 256 }
+    ensures { result ≤ Rings.PENDING }
 {
-    (place.get::<u32>() as usize).min(256)
+    (place.get::<u32>() as usize).min(Rings::PENDING)
 }
 
 // What a drain answers: a count and so many entries of its table, or a refusal.

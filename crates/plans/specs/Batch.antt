@@ -4,6 +4,7 @@ use Rattle.laws.specs.Choice.{pick}
 use Rattle.types.specs.Empty.{empty_batch}
 use Rattle.types.specs.declared.error.ProducerError.TheVariants.{OutboundFull}
 use Rattle.types.specs.declared.frame.FrameRecord.{FrameRecord}
+use Rattle.queue.specs.Sizes.{outbound_size}
 use Rattle.queue.specs.Batch.{batch_record, is_empty}
 use Rattle.rules.specs.Batch.{makes_frame}
 use Rattle.plans.specs.declared.state.Core.{Core}
@@ -29,7 +30,7 @@ abbrev pub flush_answer : Core → Result ℕ ProducerError
 flush_answer c =
     pick (is_empty c.batch) (Ok 0)
     (pick c.settings.switches.closed (Ok 0)
-    (pick (nat_lt 1024 (c.rings.waiting + 1)) (Err OutboundFull) (Ok 1)))
+    (pick (nat_lt outbound_size (c.rings.waiting + 1)) (Err OutboundFull) (Ok 1)))
 
 abbrev pub flush_of : Result ℕ ProducerError → ℕ → Core → FlushDelta
 flush_of answer publish_time c =

@@ -4,6 +4,7 @@ use Rattle.laws.specs.Choice.{pick}
 use Rattle.types.specs.declared.error.ProducerError.TheVariants.{Closed, PartOutside, OverBound, OutboundFull, HeldFull, PendingFull}
 use Rattle.types.specs.declared.message.OutgoingMessage.{OutgoingMessage}
 use Rattle.types.specs.declared.way.Way.{Way}
+use Rattle.queue.specs.Sizes.{outbound_size, held_size, pending_size}
 use Rattle.queue.specs.Send.{way_of, pushes, joins, is_too_large, message_in, within_bounds}
 use Rattle.plans.specs.declared.state.Core.{Core}
 use Rattle.types.specs.declared.error.ProducerError.{ProducerError}
@@ -11,9 +12,9 @@ use Rattle.types.specs.declared.error.ProducerError.{ProducerError}
 -- 4, 5 and 7 of a way
 abbrev pub allowed_way : Way → Core → Result Way ProducerError
 allowed_way w c =
-    pick (nat_lt 1024 (c.rings.waiting + pushes w)) (Err OutboundFull)
-    (pick (joins w && nat_le 512 (min c.rings.held.len 512)) (Err HeldFull)
-    (pick (not (is_too_large w) && nat_le 256 (min c.rings.pending.len 256)) (Err PendingFull)
+    pick (nat_lt outbound_size (c.rings.waiting + pushes w)) (Err OutboundFull)
+    (pick (joins w && nat_le held_size (min c.rings.held.len held_size)) (Err HeldFull)
+    (pick (not (is_too_large w) && nat_le pending_size (min c.rings.pending.len pending_size)) (Err PendingFull)
     (Ok w)))
 
 unfoldable pub chosen_within : OutgoingMessage → Core → Result Way ProducerError

@@ -6,6 +6,7 @@ use Rattle.types.specs.declared.entry.OpSend.{OpSend}
 use Rattle.types.specs.declared.entry.Publish.{Publish}
 use Rattle.types.specs.declared.frame.FrameRecord.{FrameRecord}
 use Rattle.types.specs.declared.message.SingleMessage.{SingleMessage}
+use Rattle.queue.specs.Sizes.{outbound_size, held_size, pending_size}
 use Rattle.queue.specs.Batch.{counted}
 use Rattle.queue.specs.Ids.{assigned}
 use Rattle.rules.specs.Rings.{place_behind, longer_behind}
@@ -33,8 +34,8 @@ abbrev pub pushed : FrameRecord → ℕ → Core → Pushed FrameRecord
 pushed frame n c =
     let r = c.rings in
     record {
-      core = record c { rings = record r { outbound = longer_behind 1024 r.outbound; waiting = add_sat r.waiting n } };
-      put = put_at (place_behind 1024 r.outbound) frame;
+      core = record c { rings = record r { outbound = longer_behind outbound_size r.outbound; waiting = add_sat r.waiting n } };
+      put = put_at (place_behind outbound_size r.outbound) frame;
     }
 
 -- an answerable entry under the next id
@@ -42,9 +43,9 @@ abbrev pub accepted : Publish → Core → Pushed OpSend
 accepted p c =
     let r = c.rings in
     record {
-      core = record c { ids = assigned c.ids; rings = record r { pending = longer_behind 256 r.pending } };
-      put = put_at (place_behind 256 r.pending)
-          (record { sequence_id = record { 0 = c.ids.next_sequence_id }; answerable = true; publish = p });
+      core = record c { ids = assigned c.ids; rings = record r { pending = longer_behind pending_size r.pending } };
+      put = put_at (place_behind pending_size r.pending)
+          (record { sequence_id = c.ids.next_sequence_id; answerable = true; publish = p });
     }
 
 -- a message more among those held
@@ -52,6 +53,6 @@ abbrev pub held : SingleMessage → Core → Pushed SingleMessage
 held m c =
     let r = c.rings in
     record {
-      core = record c { rings = record r { held = longer_behind 512 r.held } };
-      put = put_at (place_behind 512 r.held) m;
+      core = record c { rings = record r { held = longer_behind held_size r.held } };
+      put = put_at (place_behind held_size r.held) m;
     }

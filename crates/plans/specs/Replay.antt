@@ -10,6 +10,7 @@ use Rattle.rules.specs.Rings.{place_before, longer_before}
 use Rattle.plans.specs.declared.delta.Pushed.{Pushed}
 use Rattle.plans.specs.Delta.{put_at}
 use Rattle.types.specs.declared.error.ProducerError.{ProducerError}
+use Rattle.queue.specs.Sizes.{outbound_size, pending_size}
 
 -- a record of n frames before the first, or none
 abbrev pub fronted_core : Option FrameRecord → ℕ → Core → Pushed FrameRecord
@@ -19,8 +20,8 @@ fronted_core None n c =
 fronted_core (Some frame) n c =
     let r = c.rings in
     record {
-      core = record c { rings = record r { outbound = longer_before 1024 r.outbound; waiting = add_sat n r.waiting } };
-      put = put_at (place_before 1024 r.outbound) frame;
+      core = record c { rings = record r { outbound = longer_before outbound_size r.outbound; waiting = add_sat n r.waiting } };
+      put = put_at (place_before outbound_size r.outbound) frame;
     }
 
 -- an entry before the first, answerable
@@ -28,16 +29,16 @@ abbrev pub fronted_entry : OpSend → Core → Pushed OpSend
 fronted_entry op c =
     let r = c.rings in
     record {
-      core = record c { rings = record r { pending = longer_before 256 r.pending } };
-      put = put_at (place_before 256 r.pending) (record op { answerable = true });
+      core = record c { rings = record r { pending = longer_before pending_size r.pending } };
+      put = put_at (place_before pending_size r.pending) (record op { answerable = true });
     }
 
 abbrev pub replay_count : ℕ → Core → Result ℕ ProducerError
-replay_count frames c = pick (nat_lt 1024 (c.rings.waiting + frames)) (Err OutboundFull) (Ok frames)
+replay_count frames c = pick (nat_lt outbound_size (c.rings.waiting + frames)) (Err OutboundFull) (Ok frames)
 
 -- 12, then 7, then 4
 abbrev pub replay_answer : Bool → ℕ → ℕ → Core → Result (Unit {0}) ProducerError
 replay_answer wellFormed entries frames c =
     pick (not wellFormed) (Err MalformedEntry)
-    (pick (nat_lt 256 (entries + min c.rings.pending.len 256)) (Err PendingFull)
-    (pick (nat_lt 1024 (c.rings.waiting + frames)) (Err OutboundFull) (Ok tt)))
+    (pick (nat_lt pending_size (entries + min c.rings.pending.len pending_size)) (Err PendingFull)
+    (pick (nat_lt outbound_size (c.rings.waiting + frames)) (Err OutboundFull) (Ok tt)))

@@ -53,7 +53,7 @@ frame_of id p k =
 abbrev pub emitted : Publish → FrameKind → ℕ → ℕ → ℕ → Core → Emitted
 emitted p k frames messages bytes c =
     let e = accepted p c in
-    let f = pushed (frame_of c.ids.next_sequence_id p k) frames (counted_core messages bytes e.core) in
+    let f = pushed (frame_of c.ids.next_sequence_id.0 p k) frames (counted_core messages bytes e.core) in
     record { core = f.core; frame = f.put; entry = e.put }
 
 abbrev pub singled : Sending → Core → Emitted
@@ -66,7 +66,7 @@ joined a c =
     let e = accepted (publish_of a (pos 1) replay.Batched c) c in
     let h = held (single_of a.message) e.core in
     record {
-      core = core_batch (grown a.message c.ids.next_sequence_id a.now c.batch) h.core;
+      core = core_batch (grown a.message c.ids.next_sequence_id.0 a.now c.batch) h.core;
       entry = e.put;
       held = h.put;
     }

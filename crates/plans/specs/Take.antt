@@ -12,13 +12,14 @@ use Rattle.plans.specs.declared.state.Core.{Core}
 use Rattle.plans.specs.declared.take.TakePlan.{TakePlan}
 use Rattle.plans.specs.State.{core_rings}
 use Rattle.types.specs.declared.error.ProducerError.{ProducerError}
+use Rattle.queue.specs.Sizes.{outbound_size, held_size}
 
 abbrev pub rings_taken : Bool → ℕ → Rings → Rings
 rings_taken stays count r =
     record r {
-      outbound = pick stays r.outbound (without_front 1024 1 r.outbound);
+      outbound = pick stays r.outbound (without_front outbound_size 1 r.outbound);
       waiting = r.waiting - 1;
-      held = without_front 512 count r.held;
+      held = without_front held_size count r.held;
     }
 
 abbrev pub core_taken : Bool → ℕ → Core → Core

@@ -1,5 +1,6 @@
 // The refusals of a send in order, and its way (document 01, 'Who can cause a refusal').
 ghost use Rattle.std.specs.Prelude.{◌≡◌, ◌≤◌};
+ghost use Rattle.types.specs.Bounds.{longest_payload};
 ghost use Rattle.plans.specs.Choose.{chosen_within, chosen};
 
 use crate::state::Core;
@@ -14,7 +15,7 @@ use types::way::Way;
 impl Core {
     // The way of a send that 4, 5 and 7 let through.
     fn choose_within(self, m: OutgoingMessage) -> Result<Way, ProducerError>
-        requires { m.payload.len ≤ 16777216 }
+        requires { m.payload.len ≤ longest_payload }
         ensures { result ≡ chosen_within m self }
     {
         let w = self.way(m);

@@ -91,8 +91,8 @@ impl Core {
         let id = self.ids.next_sequence_id;
         let pending = self.rings.pending;
         let ids = SequenceIds {
-            next_sequence_id: id.wrapping_add(1),
-            last_sequence_id_pushed: signed_of(id),
+            next_sequence_id: SequenceId(id.0.wrapping_add(1)),
+            last_sequence_id_pushed: signed_of(id.0),
             ..self.ids
         };
         let rings = Rings {
@@ -100,7 +100,7 @@ impl Core {
             ..self.rings
         };
         let op = OpSend {
-            sequence_id: SequenceId(id),
+            sequence_id: id,
             answerable: true,
             publish,
         };

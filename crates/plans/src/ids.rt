@@ -3,6 +3,7 @@ ghost use Rattle.std.specs.Prelude.{◌≡◌};
 ghost use Rattle.plans.specs.Ids.{with_initial_id, send_deadline_of, batch_deadline_of};
 
 use crate::state::Core;
+use types::types::SequenceId;
 use upkeep::deadline::{after, unless_none};
 use upkeep::stats::initial_ids;
 
@@ -23,8 +24,8 @@ impl Core {
         unless_none(self.batch.len, deadline)
     }
 
-    pub fn set_initial_sequence_id(self, next: u64) -> Core
-        ensures { result ≡ with_initial_id next self }
+    pub fn set_initial_sequence_id(self, next: SequenceId) -> Core
+        ensures { result ≡ with_initial_id next.0 self }
     {
         Core {
             ids: initial_ids(self.ids, next),

@@ -101,7 +101,7 @@ impl Core {
     ) -> Emitted
         ensures { result ≡ emitted p kind frames messages bytes self }
     {
-        let frame = frame_of(SequenceId(self.ids.next_sequence_id), p, kind);
+        let frame = frame_of(self.ids.next_sequence_id, p, kind);
         let accepted = self.assign_sequence_id(p);
         let pushed = accepted.core.count(messages, bytes).push(frame, frames);
         Emitted {

@@ -4,6 +4,7 @@ ghost use Rattle.plans.specs.Settle.{core_without, core_published};
 
 use crate::state::Core;
 use rules::rings::Rings;
+use types::types::SequenceId;
 use upkeep::stats::published_ids;
 
 impl Core {
@@ -19,8 +20,8 @@ impl Core {
     }
 
     // A receipt's id becomes the published number.
-    pub fn published(self, id: u64) -> Core
-        ensures { result ≡ core_published id self }
+    pub fn published(self, id: SequenceId) -> Core
+        ensures { result ≡ core_published id.0 self }
     {
         Core {
             ids: published_ids(self.ids, id),

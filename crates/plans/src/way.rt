@@ -1,6 +1,7 @@
 // What a send does with its message (document 01, 'sends').
 ghost use Rattle.std.specs.Prelude.{◌≡◌, ◌≤◌};
 ghost use Rattle.queue.specs.Send.{large, flushes_before, way_into, way_of};
+ghost use Rattle.types.specs.Bounds.{longest_payload};
 ghost use Rattle.plans.specs.Way.{left_core};
 
 use crate::state::Core;
@@ -45,7 +46,7 @@ impl Core {
 
     // Above the limit: refused with chunking off; with chunking on it joins if it can, else it is chunked.
     fn way_into(self, m: OutgoingMessage, before: bool) -> Way
-        requires { m.payload.len ≤ 16777216 }
+        requires { m.payload.len ≤ longest_payload }
         ensures { result ≡ way_into self.settings m before self.batch }
     {
         let large = self.is_large(m);
@@ -72,7 +73,7 @@ impl Core {
 
     // A message over the bound of 3 has none.
     pub(crate) fn way(self, m: OutgoingMessage) -> Way
-        requires { m.payload.len ≤ 16777216 }
+        requires { m.payload.len ≤ longest_payload }
         ensures { result ≡ way_of self.settings m self.batch }
     {
         let before = self.flushes_before(m);

@@ -5,6 +5,7 @@ use Rattle.laws.specs.Choice.{pick}
 use Rattle.laws.specs.Ring.{ring, slot}
 use Rattle.laws.proofs.Lists.{map_drop}
 use Rattle.laws.proofs.Rings.{ring_none, ring_map, ring_drops}
+use Rattle.types.specs.declared.types.SequenceId.{SequenceId}
 use Rattle.types.specs.declared.entry.OpSend.{OpSend}
 use Rattle.types.specs.declared.entry.Publish.{Publish}
 use Rattle.types.specs.declared.error.ProducerError.{ProducerError}
@@ -81,7 +82,7 @@ unmark_drop (op ∷ gone) n l =
     unmark_drop gone n (map (unmark op.sequence_id.0) l)
     ∙ ap (unmark_all gone) (sym (map_drop (unmark op.sequence_id.0) n l))
 
-unmark_ring : (gone : List OpSend) (is ms : List ℕ) (ps : List Publish) (h n : ℕ)
+unmark_ring : (gone : List OpSend) (is : List SequenceId) (ms : List ℕ) (ps : List Publish) (h n : ℕ)
     → ring 256 (entries is (cleared_each gone is ms) ps) h n ≡ unmark_all gone (ring 256 (entries is ms ps) h n)
 unmark_ring [] is ms ps h n = refl
 unmark_ring (op ∷ gone) is ms ps h n =
@@ -90,7 +91,7 @@ unmark_ring (op ∷ gone) is ms ps h n =
     ∙ ap (unmark_all gone)
     (ap (λ (l : List OpSend). ring 256 l h n) (unmarked_entries id is ms ps) ∙ sym (ring_map (unmark id) 256 (entries is ms ps) h n))
 
-length_each : (gone : List OpSend) (is ms : List ℕ) → length (cleared_each gone is ms) ≡ length ms
+length_each : (gone : List OpSend) (is : List SequenceId) (ms : List ℕ) → length (cleared_each gone is ms) ≡ length ms
 length_each [] is ms = refl
 length_each (op ∷ gone) is ms = length_each gone is (cleared_all op.sequence_id.0 is ms) ∙ length_cleared op.sequence_id.0 is ms
 

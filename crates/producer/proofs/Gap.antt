@@ -4,6 +4,7 @@ use Rattle.laws.specs.Ring.{slot}
 use Rattle.laws.proofs.Slots.{slot_below}
 use Rattle.laws.proofs.Loops.{Shift, shift_step, shift_end}
 use Rattle.types.specs.declared.entry.Publish.{Publish}
+use Rattle.upkeep.proofs.Keys.{no_id}
 use Rattle.producer.specs.View.{entry_of, slots_of}
 use Rattle.producer.specs.Settle.{with_slots, GapClosed}
 use Rattle.producer.specs.declared.state.ProducerState.{ProducerState}
@@ -39,7 +40,7 @@ module _ (s₀ : ProducerState) (place : ℕ) where
         outbound = s.outbound;
         held = s.held;
         pending = set s.pending to (get_or s.pending from d);
-        pending_ids = set s.pending_ids to (get_or s.pending_ids from 0);
+        pending_ids = set s.pending_ids to (get_or s.pending_ids from no_id);
         pending_marks = set s.pending_marks to (get_or s.pending_marks from 0);
       }
 
@@ -55,8 +56,8 @@ module _ (s₀ : ProducerState) (place : ℕ) where
       let li : from < length is = omega (arith, slot_below 256 h (i + 1) pos, m.ids) in
       let lm : from < length ms = omega (arith, slot_below 256 h (i + 1) pos, m.marks) in
       let lp : from < length ps = omega (arith, slot_below 256 h (i + 1) pos, m.pending) in
-      let next : Shift 256 (slots_of s₀) h s₀.core.rings.pending.len place (set (slots_of s) to (get_or (slots_of s) from (entry_of 0 0 d))) (i + 1) =
-      shift_step 256 pos (slots_of s₀) h s₀.core.rings.pending.len place (slots_of s) i (entry_of 0 0 d) m.shift b in
+      let next : Shift 256 (slots_of s₀) h s₀.core.rings.pending.len place (set (slots_of s) to (get_or (slots_of s) from (entry_of no_id 0 d))) (i + 1) =
+      shift_step 256 pos (slots_of s₀) h s₀.core.rings.pending.len place (slots_of s) i (entry_of no_id 0 d) m.shift b in
       record {
         same = ap (λ (t : ProducerState). with_slots (moved s from to d) t) m.same;
         ids = simp length-set m.ids;
@@ -64,7 +65,7 @@ module _ (s₀ : ProducerState) (place : ℕ) where
         pending = simp length-set m.pending;
         shift =
             rw
-            (entries_set is ms ps to (get_or is from 0) (get_or ms from 0) (get_or ps from d), ← entries_at is ms ps from d (entry_of 0 0 d) li lm lp)
+            (entries_set is ms ps to (get_or is from no_id) (get_or ms from 0) (get_or ps from d), ← entries_at is ms ps from d (entry_of no_id 0 d) li lm lp)
             next;
       }
 

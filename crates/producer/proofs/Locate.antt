@@ -8,6 +8,7 @@ use Rattle.laws.proofs.Slots.{slot_below}
 use Rattle.laws.proofs.Lists.{first_below}
 use Rattle.laws.proofs.Rings.{ring_map, length_ring, ring_at}
 use Rattle.upkeep.specs.Pending.{Key, keys, wanted, place_of, first_if, located}
+use Rattle.upkeep.proofs.Keys.{no_id}
 use Rattle.types.specs.declared.entry.OpSend.{OpSend}
 use Rattle.types.specs.declared.entry.Publish.{Publish}
 use Rattle.queue.specs.Queue.{with_pending}
@@ -43,7 +44,7 @@ located_below id l i e = go (place_of (wanted id false) l) e
 
 -- what is put together from the arrays at a place is the entry there
 pub entry_there : (s : ProducerState) → Full s → (place at : ℕ) → at ≡ slot 256 s.core.rings.pending.head place → (d : Publish) (r : OpSend)
-    → r ≡ entry_of (get_or s.pending_ids at 0) (get_or s.pending_marks at 0) (get_or s.pending at d)
+    → r ≡ entry_of (get_or s.pending_ids at no_id) (get_or s.pending_marks at 0) (get_or s.pending at d)
     → get_or (view s).pending place r ≡ r
 unfolding view
 entry_there s f place at q d r e = go (dec_lt place (min n 256))

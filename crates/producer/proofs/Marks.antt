@@ -5,6 +5,7 @@ use Rattle.laws.proofs.Choice.{and_left, and_right}
 use Rattle.laws.proofs.Rings.{ring_map}
 use Rattle.types.specs.declared.entry.OpSend.{OpSend}
 use Rattle.types.specs.declared.entry.Publish.{Publish}
+use Rattle.types.specs.declared.types.SequenceId.{SequenceId}
 use Rattle.queue.specs.Queue.{with_pending}
 use Rattle.queue.specs.Tables.{mark}
 use Rattle.producer.specs.View.{view, entries, slots_of}
@@ -16,7 +17,7 @@ abbrev pub all_set : List ℕ → Bool
 all_set [] = true
 all_set (n ∷ ns) = not (eqb n 0) && all_set ns
 
-marked_entries : (is ms ns : List ℕ) (ps : List Publish) → length ns ≡ length ms → all_set ns ≡ true → entries is ns ps ≡ map mark (entries is ms ps)
+marked_entries : (is : List SequenceId) (ms ns : List ℕ) (ps : List Publish) → length ns ≡ length ms → all_set ns ≡ true → entries is ns ps ≡ map mark (entries is ms ps)
 marked_entries [] ms ns ps e h = refl
 marked_entries (i ∷ is) [] [] ps e h = refl
 marked_entries (i ∷ is) [] (n ∷ ns) ps e h = absurd (omega arith)
@@ -25,7 +26,7 @@ marked_entries (i ∷ is) (m ∷ ms) (n ∷ ns) [] e h = refl
 marked_entries (i ∷ is) (m ∷ ms) (n ∷ ns) (p ∷ ps) e h =
     let first : not (eqb n 0) ≡ true = and_left (not (eqb n 0)) (all_set ns) h in
     let rest : entries is ns ps ≡ map mark (entries is ms ps) = marked_entries is ms ns ps (omega arith) (and_right (not (eqb n 0)) (all_set ns) h) in
-    λ j. record { sequence_id = record { 0 = i }; answerable = first j; publish = p } ∷ rest j
+    λ j. record { sequence_id = i; answerable = first j; publish = p } ∷ rest j
 
 abbrev pub with_marks : List ℕ → ProducerState → ProducerState
 with_marks ns s =

@@ -9,6 +9,7 @@ use Rattle.laws.specs.Numbers.{add_sat}
 use Rattle.laws.proofs.Choice.{differ}
 use Rattle.laws.proofs.Lists.{map_append}
 use Rattle.laws.proofs.Pushes.{front_room}
+use Rattle.types.specs.declared.types.SequenceId.{SequenceId}
 use Rattle.types.specs.declared.entry.OpSend.{OpSend}
 use Rattle.types.specs.declared.error.ProducerError.{ProducerError}
 use Rattle.types.specs.declared.error.ProducerError.TheVariants.{OutboundFull, PendingFull, MalformedEntry}
@@ -45,7 +46,7 @@ module _ (s : ProducerState) where
   left = unborne (view s).out.frames (view s).pending
 
   -- the entries chosen are those of the definition
-  pub found : (ids : List ℕ) (ops l : List OpSend) → ids ≡ map frame_id (view s).out.frames → ops ≡ (view s).pending
+  pub found : (ids : List SequenceId) (ops l : List OpSend) → ids ≡ map frame_id (view s).out.frames → ops ≡ (view s).pending
       → l ≡ keeping (free ids) (take 256 ops) → l ≡ left
   found ids ops l named listed e =
       e

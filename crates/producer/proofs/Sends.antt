@@ -46,12 +46,12 @@ joined_state e s = store_held e.held (store_entry e.entry (store_core e.core s))
 module _ (s : ProducerState) (f : Full s) where
   emits : (p : Publish) (k : FrameKind) (frames messages bytes : ℕ)
       → view (emitted_state (emitted p k frames messages bytes s.core) s)
-      ≡ send.emit (frame_of s.core.ids.next_sequence_id p k) frames messages bytes (send.accept (entry_of s.core.ids.next_sequence_id 1 p) (view s))
+      ≡ send.emit (frame_of s.core.ids.next_sequence_id.0 p k) frames messages bytes (send.accept (entry_of s.core.ids.next_sequence_id 1 p) (view s))
   unfolding view
   emits p k frames messages bytes =
       let c = s.core in
       let e = accepted p c in
-      let r = frame_of c.ids.next_sequence_id p k in
+      let r = frame_of c.ids.next_sequence_id.0 p k in
       let s1 = store_entry e.put (store_core e.core s) in
       let f1 = full_entry (store_core e.core s) (full_core s f e.core) e.put in
       let c2 = counted_core messages bytes e.core in
@@ -80,7 +80,7 @@ module _ (s : ProducerState) (f : Full s) where
       let e = accepted p c in
       let s1 = store_entry e.put (store_core e.core s) in
       let f1 = full_entry (store_core e.core s) (full_core s f e.core) e.put in
-      let b = grown a.message c.ids.next_sequence_id a.now c.batch in
+      let b = grown a.message c.ids.next_sequence_id.0 a.now c.batch in
       let m = single_of a.message in
       ap (batching b) (holds s1 f1 m ∙ ap (λ (q : Queue). with_out (holding m q.out) q) (accepts s f p))
 

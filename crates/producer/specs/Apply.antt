@@ -25,7 +25,7 @@ abbrev pub store_entry : Option (Put OpSend) → ProducerState → ProducerState
 store_entry p s =
     record s {
       pending = stored (λ op. op.publish) p s.pending;
-      pending_ids = stored (λ op. op.sequence_id.0) p s.pending_ids;
+      pending_ids = stored (λ op. op.sequence_id) p s.pending_ids;
       pending_marks = stored (λ op. from_bool op.answerable) p s.pending_marks;
     }
 

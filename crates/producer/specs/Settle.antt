@@ -4,6 +4,7 @@ use Rattle.laws.specs.Lists.{without}
 use Rattle.laws.specs.Ring.{ring}
 use Rattle.types.specs.declared.error.ProducerError.TheVariants.{NotAnswerable}
 use Rattle.types.specs.declared.entry.OpSend.{OpSend}
+use Rattle.queue.specs.Sizes.{pending_size}
 use Rattle.queue.specs.Queue.{with_pending}
 use Rattle.queue.specs.Settle.{unmark}
 use Rattle.upkeep.specs.Pending.{Key, located, cleared_all}
@@ -26,8 +27,8 @@ with_slots slots s =
 -- the entry at a place is gone, and those behind it have moved up
 pub record GapClosed (place : ℕ) (before after : ProducerState) : Type 0 where
   pub same : after ≡ with_slots after before
-  pub moved : ring 256 (slots_of after) before.core.rings.pending.head (min before.core.rings.pending.len 256 - 1)
-      ≡ without (ring 256 (slots_of before) before.core.rings.pending.head before.core.rings.pending.len) place
+  pub moved : ring pending_size (slots_of after) before.core.rings.pending.head (min before.core.rings.pending.len pending_size - 1)
+      ≡ without (ring pending_size (slots_of before) before.core.rings.pending.head before.core.rings.pending.len) place
 
 -- no entry keeps the id in the index
 abbrev pub unmarked : ℕ → ProducerState → ProducerState

@@ -1,16 +1,18 @@
 -- What a state stands for: the queue of document 01. Every value of the struct is a state.
 use Rattle.std.specs.Prelude.{ℕ, not, List, [], ◌∷◌, ◌==◌}
 use Rattle.laws.specs.Ring.{ring}
+use Rattle.queue.specs.Sizes.{outbound_size, held_size, pending_size}
 use Rattle.queue.specs.Queue.{Queue}
 use Rattle.types.specs.declared.entry.OpSend.{OpSend}
 use Rattle.types.specs.declared.entry.Publish.{Publish}
+use Rattle.types.specs.declared.types.SequenceId.{SequenceId}
 use Rattle.producer.specs.declared.state.ProducerState.{ProducerState}
 
 -- a pending entry is put together from its id, its mark and what was sent
-abbrev pub entry_of : ℕ → ℕ → Publish → OpSend
-entry_of id mark p = record { sequence_id = record { 0 = id }; answerable = not (mark == 0); publish = p }
+abbrev pub entry_of : SequenceId → ℕ → Publish → OpSend
+entry_of id mark p = record { sequence_id = id; answerable = not (mark == 0); publish = p }
 
-abbrev pub entries : List ℕ → List ℕ → List Publish → List OpSend
+abbrev pub entries : List SequenceId → List ℕ → List Publish → List OpSend
 entries [] ms ps = []
 entries (i ∷ is) [] ps = []
 entries (i ∷ is) (m ∷ ms) [] = []
@@ -29,11 +31,11 @@ view s =
       settings = c.settings;
       ids = c.ids;
       counters = c.counters;
-      pending = ring 256 (slots_of s) r.pending.head r.pending.len;
+      pending = ring pending_size (slots_of s) r.pending.head r.pending.len;
       out = record {
-        frames = ring 1024 s.outbound r.outbound.head r.outbound.len;
+        frames = ring outbound_size s.outbound r.outbound.head r.outbound.len;
         waiting = r.waiting;
-        held = ring 512 s.held r.held.head r.held.len;
+        held = ring held_size s.held r.held.head r.held.len;
         batch = c.batch;
       };
     }

@@ -24,7 +24,7 @@ impl ProducerState {
         if let Some(p) = put {
             if p.at < self.pending.len() {
                 self.pending[p.at] = p.value.publish;
-                self.pending_ids[p.at] = p.value.sequence_id.0;
+                self.pending_ids[p.at] = p.value.sequence_id;
                 self.pending_marks[p.at] = p.value.answerable as u8;
             }
         }

@@ -10,6 +10,7 @@ ghost use Rattle.producer.specs.View.{view};
 
 use crate::answer::Answered;
 use crate::state::ProducerState;
+use rules::rings::Rings;
 use tables::copy::copy_entries;
 use tables::drain::{fitted, gone_count, unmark_each};
 use tables::list::Listed;
@@ -63,7 +64,7 @@ impl ProducerState {
     }
 
     // The batched entries, or the others.
-    fn of_kind(&self, batched: bool) -> Listed<OpSend, 256>
+    fn of_kind(&self, batched: bool) -> Listed<OpSend, { Rings::PENDING }>
         ensures { Lists (kind_of batched (view self.now).pending) result }
     {
         let pending = self.entries();

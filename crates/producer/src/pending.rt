@@ -5,15 +5,16 @@ ghost use Rattle.producer.specs.View.{view, entry_of};
 
 use crate::state::ProducerState;
 use rules::blank::no_entry;
+use rules::rings::Rings;
 use tables::list::Listed;
 use types::entry::{OpSend, Publish};
 use types::types::SequenceId;
 
-fn op_of(id: u64, mark: u8, publish: Publish) -> OpSend
+fn op_of(id: SequenceId, mark: u8, publish: Publish) -> OpSend
     ensures { result ≡ entry_of id mark publish }
 {
     OpSend {
-        sequence_id: SequenceId(id),
+        sequence_id: id,
         answerable: mark != 0,
         publish,
     }
@@ -22,7 +23,7 @@ fn op_of(id: u64, mark: u8, publish: Publish) -> OpSend
 impl ProducerState {
     // The entry at a place from the oldest one. The marks are counted as in `place_of`.
     pub(crate) fn op_at(&self, place: usize) -> OpSend
-        ensures marks { length self.now.pending_marks ≡ 256 }
+        ensures marks { length self.now.pending_marks ≡ Rings.PENDING }
         ensures entry { slice_index_or (view self.now).pending place result ≡ result }
     {
         let at = self.core.rings.pending.slot(place);
@@ -34,11 +35,11 @@ impl ProducerState {
     }
 
     // The oldest first.
-    pub(crate) fn entries(&self) -> Listed<OpSend, 256>
+    pub(crate) fn entries(&self) -> Listed<OpSend, { Rings::PENDING }>
         ensures { Lists (view self.now).pending result }
     {
         let len = self.core.rings.pending.count();
-        let mut items = [no_entry(); 256];
+        let mut items = [no_entry(); Rings::PENDING];
         for i in 0..len {
             items[i] = self.op_at(i);
         }

@@ -2,6 +2,7 @@
 ghost use Rattle.std.specs.Prelude.{◌≡◌, ◌<◌, ◌^◌, [], map};
 ghost use Rattle.laws.specs.Lists.{front_all};
 ghost use Rattle.queue.specs.Queue.{with_out, with_pending};
+ghost use Rattle.queue.specs.Sizes.{pending_size};
 ghost use Rattle.queue.specs.Run.{replay, resend};
 ghost use Rattle.queue.specs.Tables.{fronted, mark};
 ghost use Rattle.queue.specs.Told.{Kept, told};
@@ -12,6 +13,7 @@ ghost use Rattle.producer.specs.View.{view};
 
 use crate::answer::Answered;
 use crate::state::ProducerState;
+use rules::rings::Rings;
 use tables::entries::{all_well_formed, frame_again, frames_of};
 use tables::list::Listed;
 use tables::pick::picked;
@@ -19,6 +21,7 @@ use tables::pushes::frames_for;
 use tables::unborne::Unborne;
 use types::entry::OpSend;
 use types::error::ProducerError;
+use types::types::SequenceId;
 
 impl ProducerState {
     // The frames of the entries in front of those that wait, in order: the last entry's go first.
@@ -37,7 +40,7 @@ impl ProducerState {
 
     // The entries in front of those that are pending, in order.
     fn front_entries(&mut self, ops: &[OpSend])
-        ensures { view self.new ≡ with_pending (front_all 256 (map mark ops.now) (view self.old).pending) (view self.old) }
+        ensures { view self.new ≡ with_pending (front_all pending_size (map mark ops.now) (view self.old).pending) (view self.old) }
     {
         for op in ops.iter().rev() {
             let p = self.core.front_entry(*op);
@@ -50,18 +53,18 @@ impl ProducerState {
     fn mark_all(&mut self)
         ensures { view self.new ≡ with_pending (map mark (view self.old).pending) (view self.old) }
     {
-        self.pending_marks = [1; 256];
+        self.pending_marks = [1; Rings::PENDING];
     }
 
     // The ids of the waiting frames.
-    fn waiting_ids(&self) -> Listed<u64, 1024>
+    fn waiting_ids(&self) -> Listed<SequenceId, { Rings::OUTBOUND }>
         ensures { Lists (map frame_id (view self.now).out.frames) result }
     {
         let ring = self.core.rings.outbound;
         let len = ring.count();
-        let mut items = [0; 1024];
+        let mut items = [SequenceId(0); Rings::OUTBOUND];
         for i in 0..len {
-            items[i] = self.outbound[ring.slot(i)].sequence_id.0;
+            items[i] = self.outbound[ring.slot(i)].sequence_id;
         }
         Listed { items, len }
     }

@@ -11,6 +11,7 @@ use crate::state::ProducerState;
 use plans::state::Core;
 use types::error::ProducerError;
 use types::settings::Setting;
+use types::types::SequenceId;
 
 impl ProducerState {
     // The planned scalars; of a refusal the state stays as it was.
@@ -51,8 +52,8 @@ impl ProducerState {
         self
     }
 
-    pub fn set_initial_sequence_id(mut self, next: u64) -> ProducerState
-        ensures { Meets [] (initial_id next) self result (done tt) }
+    pub fn set_initial_sequence_id(mut self, next: SequenceId) -> ProducerState
+        ensures { Meets [] (initial_id next.0) self result (done tt) }
     {
         self.core = self.core.set_initial_sequence_id(next);
         self

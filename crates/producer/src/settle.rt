@@ -12,16 +12,17 @@ ghost use Rattle.producer.specs.View.{view};
 
 use crate::answer::Answered;
 use crate::state::ProducerState;
+use rules::rings::Rings;
 use types::command::{CommandSendError, CommandSendReceipt};
 use types::entry::OpSend;
 use types::error::ProducerError;
-use types::types::MessageId;
+use types::types::{MessageId, SequenceId};
 use upkeep::pending::{Index, unmark};
 
 impl ProducerState {
     // The entries behind a place move up by one.
     fn close_gap(&mut self, place: usize)
-        requires { place < min self.old.core.rings.pending.len 256 }
+        requires { place < min self.old.core.rings.pending.len Rings.PENDING }
         ensures { GapClosed place self.old self.new }
     {
         let ring = self.core.rings.pending;
@@ -49,9 +50,9 @@ impl ProducerState {
 
     // Where the first entry stands that bears the id, if the id is answerable. How many marks there are is said for callers that
     // have the state by `&mut`, whom the check tells the lengths of four arrays.
-    pub fn place_of(&self, id: u64) -> Option<usize>
-        ensures marks { length self.now.pending_marks ≡ 256 }
-        ensures place { result ≡ located id (searched self.now.pending_ids self.now.pending_marks self.now.core.rings.pending) }
+    pub fn place_of(&self, id: SequenceId) -> Option<usize>
+        ensures marks { length self.now.pending_marks ≡ Rings.PENDING }
+        ensures place { result ≡ located id.0 (searched self.now.pending_ids self.now.pending_marks self.now.core.rings.pending) }
     {
         let index = Index {
             ids: &self.pending_ids,
@@ -62,15 +63,15 @@ impl ProducerState {
     }
 
     // The id leaves the index.
-    fn unmark_all(&mut self, id: u64)
-        ensures { self.new ≡ unmarked id self.old }
+    fn unmark_all(&mut self, id: SequenceId)
+        ensures { self.new ≡ unmarked id.0 self.old }
     {
         unmark(&mut self.pending_marks, &self.pending_ids, id);
     }
 
     // The first entry that bears an answerable id leaves, and the id the index.
-    fn settle(&mut self, id: u64) -> Result<OpSend, ProducerError>
-        ensures { Settles id self.old result self.new }
+    fn settle(&mut self, id: SequenceId) -> Result<OpSend, ProducerError>
+        ensures { Settles id.0 self.old result self.new }
     {
         let place = self.place_of(id).ok_or(ProducerError::NotAnswerable)?;
         let op = self.op_at(place);
@@ -83,7 +84,7 @@ impl ProducerState {
         ensures meets { Meets [] (run.receipt receipt.sequence_id.0 receipt.message_id) self.old self.new (told result) }
         ensures kept { Kept (told result) self.old self.new }
     {
-        let id = receipt.sequence_id.0;
+        let id = receipt.sequence_id;
         let op = self.settle(id)?;
         self.core = self.core.published(id);
         Ok((op, MessageId::of_receipt(receipt.message_id)))
@@ -93,7 +94,7 @@ impl ProducerState {
         ensures meets { Meets [] (send_error err.sequence_id.0 err.error) self.old self.new (told result) }
         ensures kept { Kept (told result) self.old self.new }
     {
-        let op = self.settle(err.sequence_id.0)?;
+        let op = self.settle(err.sequence_id)?;
         Ok((op, err.error))
     }
 

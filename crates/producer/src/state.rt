@@ -6,6 +6,7 @@ ghost use Rattle.producer.specs.View.{view};
 use plans::state::Core;
 use rules::batch::single_of;
 use rules::blank::{no_message, no_publish};
+use rules::rings::Rings;
 use types::entry::Publish;
 use types::frame::{FrameKind, FrameRecord, ProducerName};
 use types::message::SingleMessage;
@@ -15,14 +16,14 @@ use types::types::{ProducerHandle, SequenceId};
 pub struct ProducerState {
     pub core: Core,
     // The waiting frames; the waiting chunks of one message are one record.
-    pub outbound: [FrameRecord; 1024],
+    pub outbound: [FrameRecord; Rings::OUTBOUND],
     // The messages of the waiting batch frames in order, then those of the open batch.
-    pub held: [SingleMessage; 512],
+    pub held: [SingleMessage; Rings::HELD],
     // The pending entries: what was sent, and beside it the ids and marks that are searched.
-    pub pending: [Publish; 256],
-    pub pending_ids: [u64; 256],
+    pub pending: [Publish; Rings::PENDING],
+    pub pending_ids: [SequenceId; Rings::PENDING],
     // Not 0 where the entry keeps its id in `pending_index`.
-    pub pending_marks: [u8; 256],
+    pub pending_marks: [u8; Rings::PENDING],
 }
 
 impl ProducerState {
@@ -39,11 +40,11 @@ impl ProducerState {
         };
         ProducerState {
             core: Core::new(handle),
-            outbound: [frame; 1024],
-            held: [single_of(no_message()); 512],
-            pending: [no_publish(); 256],
-            pending_ids: [0; 256],
-            pending_marks: [0; 256],
+            outbound: [frame; Rings::OUTBOUND],
+            held: [single_of(no_message()); Rings::HELD],
+            pending: [no_publish(); Rings::PENDING],
+            pending_ids: [SequenceId(0); Rings::PENDING],
+            pending_marks: [0; Rings::PENDING],
         }
     }
 }

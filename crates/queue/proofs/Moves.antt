@@ -40,7 +40,7 @@ module _ (q : Queue) (k : Well q) where
   flush_out time room = ap (with_batch empty_batch) (push_room q.out (batch_record q.settings time q.out.batch) 1 k.out (omega arith) room)
 
   pub join_out : (a : Sending) → length q.out.held < 512
-      → (add_to_batch a q).out ≡ joined_to (single_of a.message) (grown a.message q.ids.next_sequence_id a.now q.out.batch) q.out
+      → (add_to_batch a q).out ≡ joined_to (single_of a.message) (grown a.message q.ids.next_sequence_id.0 a.now q.out.batch) q.out
   unfolding add_to_batch
   join_out a room = rw (lt-ltb (length q.out.held) 512 room)
 
@@ -62,7 +62,7 @@ module _ (q : Queue) (k : Well q) where
   unfolding add_to_batch
   join_well a held pending s =
       record {
-        out = rw (join_out a held) (join_sound q.out a.message q.ids.next_sequence_id a.now k.out held s.bounds);
+        out = rw (join_out a held) (join_sound q.out a.message q.ids.next_sequence_id.0 a.now k.out held s.bounds);
         pending = rw (lt-ltb (length q.pending) 256 pending) (one_more q.pending _ k.pending pending s.within);
       }
 

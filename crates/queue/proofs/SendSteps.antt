@@ -156,7 +156,7 @@ module _ (store : List ℕ) (q : Queue) (took : List Frame) (acc : List Message)
   unfolding add_to_batch
   join_keeps a room kept agrees =
       rw (join_out q w a room)
-      (join_holds store q.handle q.out took acc all k a.message q.ids.next_sequence_id a.now (omega (arith, w.out.shared)) kept agrees)
+      (join_holds store q.handle q.out took acc all k a.message q.ids.next_sequence_id.0 a.now (omega (arith, w.out.shared)) kept agrees)
 
   single_keeps : (a : Sending) → q.out.waiting + 1 ≤ 1024 → q.out.batch.len ≡ 0
       → message_in (length store) a.message a.message.payload ≡ true

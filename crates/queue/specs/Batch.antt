@@ -13,6 +13,7 @@ use Rattle.types.specs.declared.message.OutgoingMessage.{OutgoingMessage}
 use Rattle.types.specs.declared.message.SingleMessage.{SingleMessage}
 use Rattle.types.specs.declared.settings.ProducerSettings.{ProducerSettings}
 use Rattle.types.specs.declared.stats.Counters.{Counters}
+use Rattle.queue.specs.Sizes.{outbound_size}
 use Rattle.queue.specs.Queue.{Queue, Outgoing, Outcome, done, refuse}
 use Rattle.types.specs.declared.types.MessageId.{MessageId}
 use Rattle.types.specs.declared.txn.TxnId.{TxnId}
@@ -136,7 +137,7 @@ batch_record t publish_time b =
 
 -- a record of n frames at the end
 abbrev pub push : FrameRecord → ℕ → Outgoing → Outgoing
-push r n o = record { frames = onto 1024 o.frames r; waiting = add_sat o.waiting n; held = o.held; batch = o.batch }
+push r n o = record { frames = onto outbound_size o.frames r; waiting = add_sat o.waiting n; held = o.held; batch = o.batch }
 
 -- messages and bytes of frames that are pushed
 abbrev pub counted : ℕ → ℕ → Counters → Counters
@@ -166,7 +167,7 @@ flushed publish_time q =
 
 -- 4: waiting frames plus the frames this call pushes exceed 1,024
 abbrev pub too_many : ℕ → Queue → Bool
-too_many n q = ltb 1024 (q.out.waiting + n)
+too_many n q = ltb outbound_size (q.out.waiting + n)
 
 -- an empty batch or a closed producer gives count 0; a flush that makes a frame is refused by 4 only
 unfoldable pub flush_batch : ℕ → Queue → Outcome ℕ

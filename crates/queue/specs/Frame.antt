@@ -24,7 +24,7 @@ pub record Command : Type 0 where
   pub sequence_id : SequenceId
   pub num_messages : ℕ
   pub txn : Option TxnId
-  pub highest_sequence_id : Option ℕ
+  pub highest_sequence_id : Option SequenceId
   pub is_chunk : Option Bool
   pub message_id : Option MessageId
 
@@ -43,7 +43,7 @@ pub record Metadata : Type 0 where
   pub compression : Option ℤ
   pub uncompressed_size : Option ℕ
   pub txn : Option TxnId
-  pub highest_sequence_id : Option ℕ
+  pub highest_sequence_id : Option SequenceId
   pub num_messages_in_batch : Option ℕ
   pub chunk_id : Option ℕ
   pub num_chunks : Option ℕ
@@ -63,8 +63,8 @@ chunk_part r c =
     record { start = p.start + at; len = min c.max_chunk_size (p.len - at) }
 
 -- a batch's highest id only if greater than the lowest
-abbrev pub highest : SequenceId → SequenceId → Option ℕ
-highest low high = pick (ltb low.0 high.0) (Some high.0) None
+abbrev pub highest : SequenceId → SequenceId → Option SequenceId
+highest low high = pick (ltb low.0 high.0) (Some high) None
 
 module _ (store : List ℕ) (handle : ProducerHandle) (r : FrameRecord) where
   -- the message's name, and the producer's when that is empty

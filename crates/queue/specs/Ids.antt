@@ -13,9 +13,9 @@ unfoldable pub set_initial_sequence_id : ℕ → Queue → Queue
 set_initial_sequence_id next q =
     with_ids
     (pick (ltb 0 next)
-    (record { next_sequence_id = next; last_sequence_id_pushed = before_next next; last_sequence_id_published = before_next next })
+    (record { next_sequence_id = record { 0 = next }; last_sequence_id_pushed = before_next next; last_sequence_id_published = before_next next })
     (record {
-      next_sequence_id = next;
+      next_sequence_id = record { 0 = next };
       last_sequence_id_pushed = q.ids.last_sequence_id_pushed;
       last_sequence_id_published = q.ids.last_sequence_id_published;
     }))
@@ -25,8 +25,8 @@ set_initial_sequence_id next q =
 abbrev pub assigned : SequenceIds → SequenceIds
 assigned i =
     record {
-      next_sequence_id = next_id i.next_sequence_id;
-      last_sequence_id_pushed = signed i.next_sequence_id;
+      next_sequence_id = record { 0 = next_id i.next_sequence_id.0 };
+      last_sequence_id_pushed = signed i.next_sequence_id.0;
       last_sequence_id_published = i.last_sequence_id_published;
     }
 

@@ -1,3 +1,4 @@
+pub mod Sizes
 pub mod Queue
 pub mod Settings
 pub mod Ids

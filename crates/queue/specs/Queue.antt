@@ -46,7 +46,7 @@ empty_outgoing = record { frames = []; waiting = 0; held = []; batch = empty_bat
 
 -- next id 0, and -1 pushed and published (ids and clocks)
 abbrev pub new_ids : SequenceIds
-new_ids = record { next_sequence_id = 0; last_sequence_id_pushed = negsuc 0; last_sequence_id_published = negsuc 0 }
+new_ids = record { next_sequence_id = record { 0 = 0 }; last_sequence_id_pushed = negsuc 0; last_sequence_id_published = negsuc 0 }
 
 abbrev pub new_counters : Counters
 new_counters = record { total_msgs_sent = 0; total_bytes_sent = 0; total_send_failed = 0; total_acks_received = 0 }

@@ -10,6 +10,7 @@ use Rattle.types.specs.declared.message.SingleMessage.{SingleMessage}
 use Rattle.types.specs.declared.types.ProducerHandle.{ProducerHandle}
 use Rattle.types.specs.declared.way.Way.{Way}
 use Rattle.types.specs.declared.way.Way.TheVariants as way
+use Rattle.queue.specs.Sizes.{outbound_size, held_size, pending_size}
 use Rattle.queue.specs.Queue.{Queue, Outgoing, done, new_queue}
 use Rattle.queue.specs.Batch.{flush_batch}
 use Rattle.queue.specs.Send.{one, joins, is_too_large, go, plan}
@@ -38,11 +39,11 @@ payload_sum (m ∷ ms) = m.payload.len + payload_sum ms
 
 pub record Reachable (q : Queue) : Type 0 where
   pub counted : q.out.waiting ≡ left_all q.out.frames
-  pub waiting : q.out.waiting ≤ 1024
+  pub waiting : q.out.waiting ≤ outbound_size
   -- so the records are at most 1,024 too
   pub records : length q.out.frames ≤ q.out.waiting
-  pub held : length q.out.held ≤ 512
-  pub pending : length q.pending ≤ 256
+  pub held : length q.out.held ≤ held_size
+  pub pending : length q.pending ≤ pending_size
   pub opened : length (open_of q.out) ≡ q.out.batch.len
   pub size : q.out.batch.current_size_bytes ≡ payload_sum (open_of q.out)
   pub encoded : q.out.batch.encoded_len ≡ batch_length (open_of q.out)
@@ -56,9 +57,9 @@ records (way.Chunked before size count) = one before + 1
 
 -- there is room for so many records, held messages and pending entries more
 pub record HasRoom (q : Queue) (newRecords newHeld newPending : ℕ) : Type 0 where
-  pub frames : length q.out.frames + newRecords ≤ 1024
-  pub held : length q.out.held + newHeld ≤ 512
-  pub pending : length q.pending + newPending ≤ 256
+  pub frames : length q.out.frames + newRecords ≤ outbound_size
+  pub held : length q.out.held + newHeld ≤ held_size
+  pub pending : length q.pending + newPending ≤ pending_size
 
 -- a call that is not refused finds room for all that it pushes
 abbrev pub FindsRoom : List ℕ → Queue → Call → Type 0

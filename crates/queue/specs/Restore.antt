@@ -3,6 +3,7 @@ use Rattle.std.specs.Prelude.{ℕ, ◌≤◌, ◌≡◌, true, List, map}
 use Rattle.types.specs.declared.entry.OpSend.{OpSend}
 use Rattle.types.specs.declared.types.ProducerHandle.{ProducerHandle}
 use Rattle.wire.specs.Batch.{All}
+use Rattle.queue.specs.Sizes.{outbound_size}
 use Rattle.queue.specs.Queue.{Queue, Outcome, done, new_queue}
 use Rattle.queue.specs.Settle.{handed}
 use Rattle.queue.specs.Tables.{batched_of, framed_of, frames_for, again, mark, snapshot_pending_sends, replay_snapshots, replay_pending_outbound}
@@ -27,5 +28,5 @@ RestoreRule =
     (store : List ℕ) (handle : ProducerHandle) (cs : List Call) → AllRanged cs
     → (droppedRoom replayRoom : ℕ) (p : Queue) (droppedTable replayTable : List OpSend)
     → snapshot_pending_sends droppedRoom replayRoom (after store (new_queue handle) cs) ≡ (p, done (handed droppedTable, handed replayTable))
-    → frames_for replayTable ≤ 1024
+    → frames_for replayTable ≤ outbound_size
     → Restored (after store (new_queue handle) cs) droppedTable replayTable (replay_snapshots replayTable p)

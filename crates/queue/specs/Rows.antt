@@ -6,6 +6,7 @@ use Rattle.types.specs.declared.batch.BatchContainer.{BatchContainer}
 use Rattle.types.specs.declared.settings.Setting.TheVariants.{MaxMessageSize, BatchingEnabled, ChunkingEnabled}
 use Rattle.types.specs.declared.stats.SequenceIds.{SequenceIds}
 use Rattle.types.specs.declared.types.MessageId.{MessageId}
+use Rattle.types.specs.declared.types.SequenceId.{SequenceId}
 use Rattle.queue.specs.Queue.{Queue, Answer, done, new_queue}
 use Rattle.queue.specs.Ids.{set_initial_sequence_id}
 use Rattle.queue.specs.Batch.{no_message, no_uuid}
@@ -22,7 +23,7 @@ pub data Value : Type 0 where
   payloads : List (List ℕ) → Value
   lengths : List ℕ → Value
   sizes : List (Option ℕ) → Value
-  id_ranges : List (ℕ × Option ℕ) → Value
+  id_ranges : List (SequenceId × Option SequenceId) → Value
 
 pub record Row : Type 0 where
   pub computed : Value
@@ -37,11 +38,14 @@ id ledger entry partition index size =
     message_id
     (record { ledger_id = ledger; entry_id = entry; partition = partition; batch_index = index; batch_size = size })
 
+abbrev sequence_id : ℕ → SequenceId
+sequence_id n = record { 0 = n }
+
 -- (next id, pushed number, published number)
 abbrev ids : ℕ → ℤ → ℤ → Value
 ids next pushed published =
     sequence_ids
-    (record { next_sequence_id = next; last_sequence_id_pushed = pushed; last_sequence_id_published = published })
+    (record { next_sequence_id = sequence_id next; last_sequence_id_pushed = pushed; last_sequence_id_published = published })
 
 abbrev minus_one : ℤ
 minus_one = negsuc 0
@@ -125,13 +129,13 @@ abbrev total_sizes : List Frame → Value
 total_sizes fs = sizes (map (λ f. f.metadata.total_chunk_msg_size) fs)
 
 abbrev batch_ids : BatchContainer → Value
-batch_ids b = id_ranges ((b.lowest_sequence_id.0, Some b.highest_sequence_id.0) ∷ [])
+batch_ids b = id_ranges ((b.lowest_sequence_id, Some b.highest_sequence_id) ∷ [])
 
 abbrev command_ids : List Frame → Value
-command_ids fs = id_ranges (map (λ f. (f.command.sequence_id.0, f.command.highest_sequence_id)) fs)
+command_ids fs = id_ranges (map (λ f. (f.command.sequence_id, f.command.highest_sequence_id)) fs)
 
 abbrev metadata_ids : List Frame → Value
-metadata_ids fs = id_ranges (map (λ f. (f.metadata.sequence_id.0, f.metadata.highest_sequence_id)) fs)
+metadata_ids fs = id_ranges (map (λ f. (f.metadata.sequence_id, f.metadata.highest_sequence_id)) fs)
 
 abbrev pub rows : List Row
 rows =
@@ -162,9 +166,9 @@ rows =
     ∷ row (payloads_of (batch_frames 0 1)) (payloads ((0x00 ∷ 0x00 ∷ 0x00 ∷ 0x02 ∷ 0x18 ∷ 0x05 ∷ quote) ∷ []))
     ∷ row (uncompressed_sizes (batch_frames 0 1)) (sizes (Some 5 ∷ []))
     -- B2: the batch has both ids, its frame no highest one, in command and metadata
-    ∷ row (batch_ids (open_batch (2 ^ 64 - 1) 2)) (id_ranges ((2 ^ 64 - 1, Some 0) ∷ []))
-    ∷ row (command_ids (batch_frames (2 ^ 64 - 1) 2)) (id_ranges ((2 ^ 64 - 1, None) ∷ []))
-    ∷ row (metadata_ids (batch_frames (2 ^ 64 - 1) 2)) (id_ranges ((2 ^ 64 - 1, None) ∷ []))
+    ∷ row (batch_ids (open_batch (2 ^ 64 - 1) 2)) (id_ranges ((sequence_id (2 ^ 64 - 1), Some (sequence_id 0)) ∷ []))
+    ∷ row (command_ids (batch_frames (2 ^ 64 - 1) 2)) (id_ranges ((sequence_id (2 ^ 64 - 1), None) ∷ []))
+    ∷ row (metadata_ids (batch_frames (2 ^ 64 - 1) 2)) (id_ranges ((sequence_id (2 ^ 64 - 1), None) ∷ []))
     -- C1: the send's answer, and its chunks
     ∷ row (answer (chunk_answer 4096 4097)) (answer (done (emitted 2)))
     ∷ row (lengths_of (chunk_frames 4096 4097)) (lengths (4096 ∷ 1 ∷ []))

@@ -3,6 +3,7 @@ use Rattle.std.specs.Prelude.{ℕ, ◌+◌, ◌-◌, ◌*◌, ◌/◌, ◌^◌, 
 use Rattle.laws.specs.Choice.{pick}
 use Rattle.laws.specs.Lists.{onto}
 use Rattle.laws.specs.Numbers.{add_sat}
+use Rattle.types.specs.Bounds.{longest_payload, longest_key, longest_name}
 use Rattle.types.specs.MemoryLimit.{reservable}
 use Rattle.types.specs.Values.{part_in, maybe_in, up_to}
 use Rattle.types.specs.Empty.{empty_batch}
@@ -18,6 +19,7 @@ use Rattle.types.specs.declared.message.OutgoingMessage.{OutgoingMessage}
 use Rattle.types.specs.declared.settings.ProducerSettings.{ProducerSettings}
 use Rattle.types.specs.declared.way.Way.{Way}
 use Rattle.types.specs.declared.way.Way.TheVariants.{TooLarge, Join, Single, Chunked}
+use Rattle.queue.specs.Sizes.{held_size, pending_size}
 use Rattle.queue.specs.Queue.{Queue, Outcome, Answer, refused, done, refuse, with_out}
 use Rattle.queue.specs.Ids.{assigned}
 use Rattle.queue.specs.Batch.{at_least_one, may_join, is_empty, is_full, same_txn, single_of, grown, push, counted, flushed, too_many}
@@ -85,8 +87,9 @@ message_in n m payload =
 -- 3: payload up to 16,777,216, keys and schema version up to 1,024, message name up to 64, reservation up to 2^40 - 1
 abbrev pub within_bounds : OutgoingMessage → ℕ → Bool
 within_bounds m reserved =
-    leb m.payload.len 16777216 && up_to 1024 m.partition_key && up_to 1024 m.ordering_key && up_to 1024 m.schema_version
-    && leb m.producer_name.len 64 && reservable reserved
+    leb m.payload.len longest_payload
+    && up_to longest_key m.partition_key && up_to longest_key m.ordering_key && up_to longest_key m.schema_version
+    && leb m.producer_name.len longest_name && reservable reserved
 
 abbrev pub one : Bool → ℕ
 one flush = pick flush 1 0
@@ -125,9 +128,9 @@ module _ (n : ℕ) (a : Sending) (q : Queue) where
       (pick (not (message_in n a.message a.message.payload)) (no 2)
       (pick (not (within_bounds a.message a.reserved)) (no 3)
       (pick (too_many (pushes way) q) (no 4)
-      (pick (joins way && leb 512 (length q.out.held)) (no 5)
+      (pick (joins way && leb held_size (length q.out.held)) (no 5)
       (pick (is_too_large way) (go way)
-      (pick (leb 256 (length q.pending)) (no 7)
+      (pick (leb pending_size (length q.pending)) (no 7)
       (go way)))))))
 
 -- ── the send ──
@@ -136,7 +139,7 @@ module _ (n : ℕ) (a : Sending) (q : Queue) where
 abbrev pub entry : Sending → ℤ → Replay → Queue → OpSend
 entry a num_messages r q =
     record {
-      sequence_id = record { 0 = q.ids.next_sequence_id };
+      sequence_id = q.ids.next_sequence_id;
       answerable = true;
       publish = record {
         num_messages = num_messages;
@@ -170,7 +173,7 @@ accept op q =
       settings = q.settings;
       ids = assigned q.ids;
       counters = q.counters;
-      pending = onto 256 q.pending op;
+      pending = onto pending_size q.pending op;
       out = q.out;
     }
 
@@ -193,8 +196,8 @@ add_to_batch a q =
     (record {
       frames = o.frames;
       waiting = o.waiting;
-      held = onto 512 o.held (single_of a.message);
-      batch = grown a.message q.ids.next_sequence_id a.now o.batch;
+      held = onto held_size o.held (single_of a.message);
+      batch = grown a.message q.ids.next_sequence_id.0 a.now o.batch;
     })
     (accept (entry a (pos 1) replay.Batched q) q)
 

@@ -1,6 +1,7 @@
 -- Document 01, 'Who can cause a refusal', setup; and the calls that set the Rust's public settings and close the producer.
 use Rattle.std.specs.Prelude.{ℕ, ◌-◌, Bool, true, List, ◌++◌, length, replicate, leb}
 use Rattle.laws.specs.Choice.{pick}
+use Rattle.types.specs.Bounds.{longest_name}
 use Rattle.types.specs.declared.frame.ProducerName.{ProducerName}
 use Rattle.types.specs.declared.settings.Limits.{Limits}
 use Rattle.types.specs.declared.settings.Switches.{Switches}
@@ -61,14 +62,14 @@ set s q = pick (allowed s) (with_settings (changed s q.settings) q, done tt) (re
 
 -- the producer's name is held as up to 64 bytes
 abbrev pub name_from : List ℕ → ProducerName
-name_from bytes = record { bytes = bytes ++ replicate (64 - length bytes) 0; len = length bytes }
+name_from bytes = record { bytes = bytes ++ replicate (longest_name - length bytes) 0; len = length bytes }
 
 abbrev pub with_name : ProducerName → ProducerSettings → ProducerSettings
 with_name n t = record { name = n; limits = t.limits; switches = t.switches; delays = t.delays }
 
 -- 8: name over 64
 unfoldable pub set_name : List ℕ → Queue → Outcome (Unit {0})
-set_name bytes q = pick (leb (length bytes) 64) (with_settings (with_name (name_from bytes) q.settings) q, done tt) (refuse 8 q)
+set_name bytes q = pick (leb (length bytes) longest_name) (with_settings (with_name (name_from bytes) q.settings) q, done tt) (refuse 8 q)
 
 -- for good: no call opens it again
 abbrev pub closed : ProducerSettings → ProducerSettings

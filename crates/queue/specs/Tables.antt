@@ -11,6 +11,7 @@ use Rattle.types.specs.declared.frame.FrameKind.{FrameKind}
 use Rattle.types.specs.declared.frame.FrameKind.TheVariants as kind
 use Rattle.types.specs.declared.settings.Setting.TheVariants.{BrokerReady}
 use Rattle.types.specs.declared.stats.Counters.{Counters}
+use Rattle.queue.specs.Sizes.{outbound_size, pending_size}
 use Rattle.queue.specs.Queue.{Queue, Outgoing, Outcome, done, refuse, empty_outgoing, with_pending, with_out}
 use Rattle.queue.specs.Settings.{changed}
 use Rattle.queue.specs.Batch.{too_many}
@@ -107,7 +108,7 @@ mark op = record { sequence_id = op.sequence_id; answerable = true; publish = op
 abbrev pub fronted : List OpSend → Outgoing → Outgoing
 fronted l o =
     record {
-      frames = front_all 1024 (map again (framed_of l)) o.frames;
+      frames = front_all outbound_size (map again (framed_of l)) o.frames;
       waiting = add_sat (frames_for l) o.waiting;
       held = o.held;
       batch = o.batch;
@@ -117,7 +118,7 @@ fronted l o =
 unfoldable pub replay_snapshots : List OpSend → Queue → Outcome (Unit {0})
 replay_snapshots l q =
     pick (not (all_well_formed l)) (refuse 12 q)
-    (pick (ltb 256 (length l + length q.pending)) (refuse 7 q)
+    (pick (ltb pending_size (length l + length q.pending)) (refuse 7 q)
     (pick (too_many (frames_for l) q) (refuse 4 q)
     (with_out (fronted l q.out) (with_pending (map mark (l ++ q.pending)) q), done tt)))
 

@@ -59,12 +59,17 @@ pub fn single_of(m: OutgoingMessage) -> SingleMessage
 }
 
 // The batch with one message more. The first brings lowest id, time and transaction.
-pub fn with_message(b: BatchContainer, m: OutgoingMessage, id: u64, now: u64) -> BatchContainer
-    ensures { result ≡ grown m id now b }
+pub fn with_message(
+    b: BatchContainer,
+    m: OutgoingMessage,
+    id: SequenceId,
+    now: u64,
+) -> BatchContainer
+    ensures { result ≡ grown m id.0 now b }
 {
     let first = if b.len == 0 {
         BatchContainer {
-            lowest_sequence_id: SequenceId(id),
+            lowest_sequence_id: id,
             first_added_at: now,
             txn_id: m.txn_id,
             ..b
@@ -76,7 +81,7 @@ pub fn with_message(b: BatchContainer, m: OutgoingMessage, id: u64, now: u64) ->
         len: b.len.saturating_add(1),
         current_size_bytes: b.current_size_bytes.saturating_add(m.payload.len),
         encoded_len: b.encoded_len.saturating_add(item_len(single_of(m))),
-        highest_sequence_id: SequenceId(id),
+        highest_sequence_id: id,
         ..first
     }
 }

@@ -3,6 +3,7 @@ ghost use Rattle.std.specs.Prelude.{◌≡◌};
 ghost use Rattle.types.specs.Values.{part_in, maybe_in, up_to};
 ghost use Rattle.queue.specs.Send.{message_in, within_bounds};
 
+use types::frame::ProducerName;
 use types::memory_limit::MemoryReservation;
 use types::message::{OutgoingMessage, Part};
 
@@ -40,10 +41,10 @@ pub fn up_to(most: usize, p: Option<Part>) -> bool
 pub fn within_bounds(m: OutgoingMessage, reservation: MemoryReservation) -> bool
     ensures { result ≡ within_bounds m reservation.bytes }
 {
-    m.payload.len <= 16_777_216
-        && up_to(1024, m.partition_key)
-        && up_to(1024, m.ordering_key)
-        && up_to(1024, m.schema_version)
-        && m.producer_name.len <= 64
+    m.payload.len <= OutgoingMessage::MAX_PAYLOAD
+        && up_to(OutgoingMessage::MAX_KEY, m.partition_key)
+        && up_to(OutgoingMessage::MAX_KEY, m.ordering_key)
+        && up_to(OutgoingMessage::MAX_KEY, m.schema_version)
+        && m.producer_name.len <= ProducerName::MAX_LEN
         && reservation.within_bound()
 }

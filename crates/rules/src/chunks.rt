@@ -14,7 +14,8 @@ impl Cut {
     // What the command and metadata of a chunk may take of the limit.
     pub const METADATA_RESERVATION: usize = 1024;
 
-    pub const MOST: usize = 0x7fff_ffff;
+    // The most chunks that a command can bear.
+    pub const MAX_CHUNKS: usize = 0x7fff_ffff;
 
     // The payload bytes of all chunks: the whole payload, unless the size is 0 or the count was stopped.
     pub fn bytes(self, payload_len: usize) -> usize
@@ -35,7 +36,7 @@ pub fn chunk_size(max_message_size: usize) -> usize
     }
 }
 
-// The payload over the size, rounded up, from 1 to the most that a command can bear.
+// The payload over the size, rounded up, from 1 to `MAX_CHUNKS`.
 #[tactic(auto, using(crate::proofs::Rounding::rounded_up))]
 pub fn compute_total_chunks(payload_len: usize, max_chunk_size: usize) -> u32
     ensures { result ≡ total_chunks payload_len max_chunk_size }
@@ -43,7 +44,9 @@ pub fn compute_total_chunks(payload_len: usize, max_chunk_size: usize) -> u32
     if max_chunk_size == 0 {
         1
     } else {
-        payload_len.div_ceil(max_chunk_size).clamp(1, Cut::MOST) as u32
+        payload_len
+            .div_ceil(max_chunk_size)
+            .clamp(1, Cut::MAX_CHUNKS) as u32
     }
 }
 

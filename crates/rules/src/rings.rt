@@ -114,10 +114,13 @@ pub struct Rings {
 }
 
 impl Rings {
+    // The most frames that wait (refusal 4).
     pub const OUTBOUND: usize = 1024;
 
+    // The most batched messages held, in the batch and in waiting batch frames (5).
     pub const HELD: usize = 512;
 
+    // The most pending entries (7).
     pub const PENDING: usize = 256;
 }
 

@@ -100,7 +100,7 @@ impl Put for SequenceId {
 
 impl Put for ProducerName {
     fn put(self, out: &mut Output) {
-        out.put(&self.bytes[..self.len.min(64)]);
+        out.put(&self.bytes[..self.len.min(ProducerName::MAX_LEN)]);
     }
 }
 

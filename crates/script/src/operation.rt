@@ -5,6 +5,7 @@ ghost use Rattle.script.specs.Calls.{Decodes};
 
 use crate::read::Place;
 use crate::write::{Output, Put};
+use rules::rings::Rings;
 use types::types::ProducerHandle;
 
 // What an operation calls, with its code.
@@ -125,7 +126,7 @@ fn fixed_size(call: Call) -> usize
 pub const ENTRY: usize = 290;
 
 // A table has at most so many, one more than can be pending: enough for a replay that 7 refuses.
-pub const MOST_ENTRIES: usize = 257;
+pub const MOST_ENTRIES: usize = Rings::PENDING + 1;
 
 // Bytes of the name or of the table's entries, which follow. A table can have too many.
 fn more_size(call: Call, count: usize) -> Option<usize> {
@@ -199,9 +200,9 @@ fn arguments_well_formed(place: Place, call: Call) -> bool {
 }
 
 fn entries_room(count: u64) -> u64
-    ensures { result ≤ 256 * 293 }
+    ensures { result ≤ Rings.PENDING * 293 }
 {
-    count.min(256) * 293
+    count.min(Rings::PENDING as u64) * 293
 }
 
 // The most bytes of an answer.

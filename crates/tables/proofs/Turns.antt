@@ -3,6 +3,7 @@ use Rattle.std.proofs.Common.{◌≡◌, ℕ, ◌≤◌, Bool, true, false, not,
 use Rattle.laws.specs.Choice.{pick}
 use Rattle.laws.specs.Lists.{keeping}
 use Rattle.types.specs.declared.entry.OpSend.{OpSend}
+use Rattle.types.specs.declared.types.SequenceId.{SequenceId}
 use Rattle.queue.specs.Tables.{is_batched}
 use Rattle.tables.specs.Drain.{cleared_each}
 use Rattle.tables.specs.Picked.{is_kind, kind_of, Lists}
@@ -10,7 +11,7 @@ use Rattle.tables.specs.declared.list.Listed.{Listed}
 
 -- ── ids that leave the index: those up to i have ──
 
-pub record Gone (l : List OpSend) (ids marks₀ marks : List ℕ) (i : ℕ) : Type 0 where
+pub record Gone (l : List OpSend) (ids : List SequenceId) (marks₀ marks : List ℕ) (i : ℕ) : Type 0 where
   pub low : i ≤ length l
   pub left : cleared_each (drop i l) ids marks ≡ cleared_each l ids marks₀
 

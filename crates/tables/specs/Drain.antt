@@ -2,6 +2,7 @@
 use Rattle.std.specs.Prelude.{ℕ, Bool, List, [], ◌∷◌, length, nat_lt, Err, None, Ok, Option, Result, Some}
 use Rattle.laws.specs.Choice.{pick}
 use Rattle.types.specs.declared.entry.OpSend.{OpSend}
+use Rattle.types.specs.declared.types.SequenceId.{SequenceId}
 use Rattle.queue.specs.Ids.{send_deadline, elapsed}
 use Rattle.queue.specs.Settle.{due_count}
 use Rattle.upkeep.specs.Pending.{cleared_all}
@@ -21,6 +22,6 @@ abbrev pub handout_of : ℕ → ℕ → Result ℕ ProducerError
 handout_of count room = pick (nat_lt room count) (Err TooShort) (Ok count)
 
 -- no entry keeps one of the ids in the index
-abbrev pub cleared_each : List OpSend → List ℕ → List ℕ → List ℕ
+abbrev pub cleared_each : List OpSend → List SequenceId → List ℕ → List ℕ
 cleared_each [] ids marks = marks
 cleared_each (op ∷ gone) ids marks = cleared_each gone ids (cleared_all op.sequence_id.0 ids marks)

@@ -2,6 +2,7 @@
 use Rattle.std.specs.Prelude.{ℕ, false, None, Option, Some}
 use Rattle.types.specs.Empty.{empty_batch}
 use Rattle.types.specs.declared.settings.Setting.TheVariants.{BrokerReady}
+use Rattle.queue.specs.Sizes.{pending_size}
 use Rattle.queue.specs.Settings.{changed}
 use Rattle.queue.specs.Tables.{failed}
 use Rattle.plans.specs.State.{core_rings}
@@ -12,7 +13,7 @@ use Rattle.rules.specs.declared.rings.Rings.{Rings}
 abbrev pub core_without_front : ℕ → Core → Core
 core_without_front n c =
     let r = c.rings in
-    core_rings (record r { pending = without_front 256 n r.pending }) c
+    core_rings (record r { pending = without_front pending_size n r.pending }) c
 
 abbrev pub rings_emptied : Rings → Rings
 rings_emptied r =

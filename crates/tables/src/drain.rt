@@ -2,8 +2,10 @@
 ghost use Rattle.std.specs.Prelude.{◌≡◌, length, take_while};
 ghost use Rattle.tables.specs.Drain.{cleared_each, gone_count, handout_of, is_due};
 
+use rules::rings::Rings;
 use types::entry::OpSend;
 use types::error::ProducerError;
+use types::types::SequenceId;
 use upkeep::deadline::{after, elapsed};
 use upkeep::pending::unmark;
 
@@ -47,10 +49,14 @@ pub fn gone_count(entries: &[OpSend], timeout: Option<u64>, due: Option<u64>) ->
 }
 
 // The ids of the entries leave the index.
-pub fn unmark_each(marks: &mut [u8; 256], ids: &[u64; 256], gone: &[OpSend])
+pub fn unmark_each(
+    marks: &mut [u8; Rings::PENDING],
+    ids: &[SequenceId; Rings::PENDING],
+    gone: &[OpSend],
+)
     ensures { marks.new ≡ cleared_each gone.now ids.now marks.old }
 {
     for op in gone {
-        unmark(marks, ids, op.sequence_id.0);
+        unmark(marks, ids, op.sequence_id);
     }
 }

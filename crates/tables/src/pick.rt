@@ -7,6 +7,7 @@ ghost use Rattle.tables.specs.Picked.{Lists, is_kind};
 use crate::entries::is_batched;
 use crate::list::Listed;
 use rules::blank::no_entry;
+use rules::rings::Rings;
 use types::entry::OpSend;
 
 // Which entries are chosen.
@@ -31,13 +32,13 @@ impl Choice for OfKind {
     }
 }
 
-// Those of the first 256 that are chosen, in order.
-pub fn picked<C: Choice + Copy>(entries: &[OpSend], choice: C) -> Listed<OpSend, 256>
-    ensures { Lists (keeping (C.chosen choice) (take 256 entries.now)) result }
+// Those of the first entries that are chosen, in order: of as many as can be pending.
+pub fn picked<C: Choice + Copy>(entries: &[OpSend], choice: C) -> Listed<OpSend, { Rings::PENDING }>
+    ensures { Lists (keeping (C.chosen choice) (take Rings.PENDING entries.now)) result }
 {
-    let mut items = [no_entry(); 256];
+    let mut items = [no_entry(); Rings::PENDING];
     let mut len = 0;
-    for op in &entries[..entries.len().min(256)] {
+    for op in &entries[..entries.len().min(Rings::PENDING)] {
         if choice.chooses(*op) {
             items[len] = *op;
             len += 1;

@@ -4,9 +4,10 @@ ghost use Rattle.tables.specs.Unborne.{borne_by, free};
 
 use crate::pick::Choice;
 use types::entry::OpSend;
+use types::types::SequenceId;
 
-fn is_borne(ids: &[u64], id: u64) -> bool
-    ensures { result ≡ borne_by id ids.now }
+fn is_borne(ids: &[SequenceId], id: SequenceId) -> bool
+    ensures { result ≡ borne_by id.0 ids.now }
 {
     ids.contains(&id)
 }
@@ -14,13 +15,13 @@ fn is_borne(ids: &[u64], id: u64) -> bool
 // Those whose id is none of the ids.
 #[derive(Clone, Copy)]
 pub struct Unborne<'a> {
-    pub ids: &'a [u64],
+    pub ids: &'a [SequenceId],
 }
 
 impl Choice for Unborne<'_> {
     ghost chosen = { λ u op. free u.ids.now op };
 
     fn chooses(&self, op: OpSend) -> bool {
-        !is_borne(self.ids, op.sequence_id.0)
+        !is_borne(self.ids, op.sequence_id)
     }
 }

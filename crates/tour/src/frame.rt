@@ -2,11 +2,12 @@
 use types::message::{Part, SingleMessage};
 use types::outbound::MessageMetadata;
 use types::txn::TxnId;
+use types::types::SequenceId;
 
 // Payload and keys are parts of the bytes taken, and nothing of the store is in it.
 #[derive(Clone, Copy)]
 pub struct Frame {
-    pub sequence_id: u64,
+    pub sequence_id: SequenceId,
     pub message: SingleMessage,
     pub txn_id: Option<TxnId>,
     pub num_messages_in_batch: Option<u64>,
@@ -22,7 +23,7 @@ impl Frame {
         ordering_key: Option<Part>,
     ) -> Frame {
         Frame {
-            sequence_id: m.sequence_id.0,
+            sequence_id: m.sequence_id,
             message: SingleMessage {
                 payload,
                 partition_key,

@@ -7,10 +7,10 @@ use types::command::CommandSendReceipt;
 use types::types::{MessageId, MessageIdData, ProducerHandle, SequenceId};
 
 // The broker has stored the message under that id as this entry of ledger 9.
-fn receipt(id: u64, entry_id: u64) -> CommandSendReceipt {
+fn receipt(id: SequenceId, entry_id: u64) -> CommandSendReceipt {
     CommandSendReceipt {
         producer_id: ProducerHandle(7),
-        sequence_id: SequenceId(id),
+        sequence_id: id,
         message_id: Some(MessageIdData {
             ledger_id: 9,
             entry_id,
@@ -35,13 +35,14 @@ impl Display for Settled {
 }
 
 impl<P: Print> Tour<'_, P> {
-    fn apply(&mut self, id: u64, entry_id: u64) -> io::Result<()> {
+    fn apply(&mut self, id: SequenceId, entry_id: u64) -> io::Result<()> {
         let r = self.state.apply_receipt(receipt(id, entry_id));
         self.state = r.state;
         let answer = Answered(r.answer.map(|(_, id)| Settled(id)));
         let published = self.state.core.ids.last_sequence_id_published;
         println!(self.out;
-            "receipt for id {id}: {answer}; published number {published}, {} pending",
+            "receipt for id {}: {answer}; published number {published}, {} pending",
+            id.0,
             self.pending()
         )
     }
@@ -58,7 +59,7 @@ impl<P: Print> Tour<'_, P> {
             (6, 5),
             (7, 5),
         ] {
-            self.apply(id, entry_id)?;
+            self.apply(SequenceId(id), entry_id)?;
         }
         Ok(())
     }

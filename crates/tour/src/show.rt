@@ -4,6 +4,7 @@ use crate::words::{Given, Mark, Printed, Txn, bytes, messages};
 use std::fmt::{self, Display, Formatter};
 use std::io;
 use types::outbound::{MessageMetadata, OutboundFrame};
+use types::types::SequenceId;
 
 #[derive(Clone, Copy)]
 struct Kind<'a>(&'a MessageMetadata);
@@ -31,7 +32,7 @@ impl Display for Ids<'_> {
     fn fmt<W: fmt::Write>(&self, f: &mut Formatter<W>) -> fmt::Result {
         let lowest = self.0.sequence_id.0;
         match self.0.highest_sequence_id {
-            Some(highest) => write!(f, "sequence ids {lowest} to {highest}"),
+            Some(SequenceId(highest)) => write!(f, "sequence ids {lowest} to {highest}"),
             None => write!(f, "sequence id {lowest}"),
         }
     }

@@ -5,7 +5,7 @@ use std::io;
 use types::message::{OutgoingMessage, Part};
 use types::settings::Setting;
 use types::txn::TxnId;
-use types::types::{MessageId, ProducerHandle};
+use types::types::{MessageId, ProducerHandle, SequenceId};
 
 // Payload length above which a message goes out in chunks.
 pub const MESSAGE_LIMIT: usize = 50;
@@ -26,7 +26,7 @@ pub fn tariff() -> ProducerState {
     ] {
         s = s.set(setting).state;
     }
-    s.set_initial_sequence_id(1)
+    s.set_initial_sequence_id(SequenceId(1))
 }
 
 pub fn introduce(out: &impl Print) -> io::Result<()> {

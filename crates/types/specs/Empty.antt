@@ -1,5 +1,6 @@
 -- The empty batch and the empty name.
 use Rattle.std.specs.Prelude.{replicate, None}
+use Rattle.types.specs.Bounds.{longest_name}
 use Rattle.types.specs.declared.batch.BatchContainer.{BatchContainer}
 use Rattle.types.specs.declared.frame.ProducerName.{ProducerName}
 
@@ -17,4 +18,4 @@ empty_batch =
     }
 
 abbrev pub empty_name : ProducerName
-empty_name = record { bytes = replicate 64 0; len = 0 }
+empty_name = record { bytes = replicate longest_name 0; len = 0 }

@@ -1,5 +1,6 @@
 -- What the values stand for: a part is the store's bytes, and what may be absent is an option, so that absent differs from empty and from false.
 use Rattle.std.specs.Prelude.{ℕ, ◌+◌, min, Bool, true, List, take, drop, leb, None, Option, Some}
+use Rattle.types.specs.Bounds.{longest_name}
 use Rattle.types.specs.declared.message.Part.{Part}
 use Rattle.types.specs.declared.frame.ProducerName.{ProducerName}
 
@@ -13,7 +14,7 @@ bytes_of store (Some p) = Some (part_of store p)
 
 -- a producer's name, held as up to 64 bytes
 abbrev pub clipped : ProducerName → ProducerName
-clipped n = record n { len = min n.len 64 }
+clipped n = record n { len = min n.len longest_name }
 
 abbrev pub name_of : ProducerName → List ℕ
 name_of n = take (clipped n).len n.bytes

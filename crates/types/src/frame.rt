@@ -10,26 +10,29 @@ use crate::types::SequenceId;
 // A producer's name: the first `len` of the bytes.
 #[derive(Clone, Copy, PartialEq, Eq)]
 pub struct ProducerName {
-    pub bytes: [u8; 64],
+    pub bytes: [u8; ProducerName::MAX_LEN],
     pub len: usize,
 }
 
 impl ProducerName {
+    // The longest name, also in a message (refusals 3 and 8).
+    pub const MAX_LEN: usize = 64;
+
     pub fn empty() -> ProducerName
         ensures { result ≡ empty_name }
     {
         ProducerName {
-            bytes: [0; 64],
+            bytes: [0; ProducerName::MAX_LEN],
             len: 0,
         }
     }
 
-    // The same name, with a length of 64 at most.
+    // The same name, with a length of `MAX_LEN` at most.
     pub fn clipped(self) -> ProducerName
         ensures { result ≡ clipped self }
     {
         ProducerName {
-            len: self.len.min(64),
+            len: self.len.min(ProducerName::MAX_LEN),
             ..self
         }
     }

@@ -31,6 +31,14 @@ pub struct OutgoingMessage {
     pub source_message_id: Option<MessageId>,
 }
 
+impl OutgoingMessage {
+    // The longest payload that a send takes (refusal 3).
+    pub const MAX_PAYLOAD: usize = 16_777_216;
+
+    // The longest key or schema version.
+    pub const MAX_KEY: usize = 1024;
+}
+
 // What a batch keeps of a message.
 #[derive(Clone, Copy, PartialEq, Eq)]
 pub struct SingleMessage {

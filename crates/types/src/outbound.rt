@@ -10,7 +10,7 @@ pub struct CommandSend {
     pub sequence_id: SequenceId,
     pub num_messages: u64,
     pub txn_id: Option<TxnId>,
-    pub highest_sequence_id: Option<u64>,
+    pub highest_sequence_id: Option<SequenceId>,
     pub is_chunk: Option<bool>,
     pub message_id: Option<MessageId>,
 }
@@ -37,7 +37,7 @@ pub struct MessageMetadata {
     pub compression: Option<i32>,
     pub uncompressed_size: Option<u64>,
     pub txn_id: Option<TxnId>,
-    pub highest_sequence_id: Option<u64>,
+    pub highest_sequence_id: Option<SequenceId>,
     pub num_messages_in_batch: Option<u64>,
     pub chunk_id: Option<u64>,
     pub num_chunks_from_msg: Option<u64>,

@@ -9,6 +9,22 @@ pub struct Limits {
     pub max_messages_in_batch: usize,
 }
 
+// The largest values that a setting takes (refusal 8), and those of a new producer: the Rust's, but for the batch count, whose
+// default is the largest.
+impl Limits {
+    pub const MAX_MESSAGE_SIZE: usize = 16_777_216;
+
+    pub const MAX_BATCH_SIZE_BYTES: usize = 16_777_216;
+
+    pub const MAX_MESSAGES_IN_BATCH: usize = 128;
+
+    pub const DEFAULT_MESSAGE_SIZE: usize = 5_242_880;
+
+    pub const DEFAULT_BATCH_SIZE_BYTES: usize = 131_072;
+
+    pub const DEFAULT_MESSAGES_IN_BATCH: usize = Limits::MAX_MESSAGES_IN_BATCH;
+}
+
 #[derive(Clone, Copy, PartialEq, Eq)]
 pub struct Switches {
     pub batching_enabled: bool,

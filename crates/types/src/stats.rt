@@ -1,8 +1,9 @@
 // The numbers that a producer counts with.
+use crate::types::SequenceId;
 
 #[derive(Clone, Copy, PartialEq, Eq)]
 pub struct SequenceIds {
-    pub next_sequence_id: u64,
+    pub next_sequence_id: SequenceId,
     pub last_sequence_id_pushed: i64,
     pub last_sequence_id_published: i64,
 }

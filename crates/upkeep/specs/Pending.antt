@@ -3,20 +3,22 @@ use Rattle.std.specs.Prelude.{ℕ, Bool, true, false, not, ◌&&◌, ◌||◌, L
 use Rattle.laws.specs.Choice.{pick}
 use Rattle.laws.specs.Lists.{first_at}
 use Rattle.laws.specs.Ring.{ring}
+use Rattle.queue.specs.Sizes.{pending_size}
+use Rattle.types.specs.declared.types.SequenceId.{SequenceId}
 use Rattle.rules.specs.declared.rings.Ring.{Ring}
 
 -- an id, and whether its entry keeps it in the index
 abbrev pub Key : Type 0
 Key = ℕ × Bool
 
-abbrev pub keys : List ℕ → List ℕ → List Key
+abbrev pub keys : List SequenceId → List ℕ → List Key
 keys [] ms = []
 keys (i ∷ is) [] = []
-keys (i ∷ is) (m ∷ ms) = (i, not (eqb m 0)) ∷ keys is ms
+keys (i ∷ is) (m ∷ ms) = (i.0, not (eqb m 0)) ∷ keys is ms
 
 -- those that a ring of entries holds
-abbrev pub searched : List ℕ → List ℕ → Ring 256 → List Key
-searched is ms r = ring 256 (keys is ms) r.head r.len
+abbrev pub searched : List SequenceId → List ℕ → Ring pending_size → List Key
+searched is ms r = ring pending_size (keys is ms) r.head r.len
 
 -- it bears the id, and is marked unless any will do
 abbrev pub wanted : ℕ → Bool → Key → Bool
@@ -36,7 +38,7 @@ located id l = first_if (place_of (wanted id false) l) (place_of (wanted id true
 abbrev pub cleared : ℕ → ℕ → ℕ → ℕ
 cleared id entry mark = pick (eqb entry id) 0 mark
 
-abbrev pub cleared_all : ℕ → List ℕ → List ℕ → List ℕ
+abbrev pub cleared_all : ℕ → List SequenceId → List ℕ → List ℕ
 cleared_all id [] ms = ms
 cleared_all id (i ∷ is) [] = []
-cleared_all id (i ∷ is) (m ∷ ms) = cleared id i m ∷ cleared_all id is ms
+cleared_all id (i ∷ is) (m ∷ ms) = cleared id i.0 m ∷ cleared_all id is ms

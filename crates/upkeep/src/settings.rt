@@ -1,5 +1,6 @@
 // Settings one by one (document 01, 'Who can cause a refusal', setup).
 ghost use Rattle.std.specs.Prelude.{◌≡◌, leb, take};
+ghost use Rattle.types.specs.Bounds.{longest_name};
 ghost use Rattle.queue.specs.Queue.{new_settings};
 ghost use Rattle.queue.specs.Settings.{allowed, changed, closed, name_from};
 
@@ -13,9 +14,9 @@ pub fn new_settings() -> ProducerSettings
     ProducerSettings {
         name: ProducerName::empty(),
         limits: Limits {
-            max_message_size: 5_242_880,
-            max_batch_size_bytes: 131_072,
-            max_messages_in_batch: 128,
+            max_message_size: Limits::DEFAULT_MESSAGE_SIZE,
+            max_batch_size_bytes: Limits::DEFAULT_BATCH_SIZE_BYTES,
+            max_messages_in_batch: Limits::DEFAULT_MESSAGES_IN_BATCH,
         },
         switches: Switches {
             batching_enabled: false,
@@ -35,9 +36,9 @@ pub fn allows(s: Setting) -> bool
     ensures { result ≡ allowed s }
 {
     match s {
-        Setting::MaxMessageSize(n) => n <= 16_777_216,
-        Setting::MaxBatchSizeBytes(n) => n <= 16_777_216,
-        Setting::MaxMessagesInBatch(n) => n <= 128,
+        Setting::MaxMessageSize(n) => n <= Limits::MAX_MESSAGE_SIZE,
+        Setting::MaxBatchSizeBytes(n) => n <= Limits::MAX_BATCH_SIZE_BYTES,
+        Setting::MaxMessagesInBatch(n) => n <= Limits::MAX_MESSAGES_IN_BATCH,
         Setting::BatchingEnabled(_)
         | Setting::ChunkingEnabled(_)
         | Setting::SendTimeout(_)
@@ -72,17 +73,17 @@ pub fn closed_settings(mut t: ProducerSettings) -> ProducerSettings
 
 // 8: a name has at most 64 bytes.
 pub fn allows_name(len: usize) -> bool
-    ensures { result ≡ leb len 64 }
+    ensures { result ≡ leb len longest_name }
 {
-    len <= 64
+    len <= ProducerName::MAX_LEN
 }
 
-// Of the first 64 bytes.
+// Of the first bytes, as many as a name can have.
 pub fn name_from(name: &[u8]) -> ProducerName
-    ensures { result ≡ name_from (take 64 name.now) }
+    ensures { result ≡ name_from (take longest_name name.now) }
 {
-    let len = name.len().min(64);
-    let mut bytes = [0; 64];
+    let len = name.len().min(ProducerName::MAX_LEN);
+    let mut bytes = [0; ProducerName::MAX_LEN];
     bytes[..len].copy_from_slice(&name[..len]);
     ProducerName { bytes, len }
 }

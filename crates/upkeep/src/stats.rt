@@ -7,9 +7,10 @@ ghost use Rattle.upkeep.specs.Stats.{initial_ids, stats_of};
 use rules::rings::{Ring, Rings};
 use types::signed::{saturating_sub_one, signed_of};
 use types::stats::{Counters, ProducerStats, SequenceIds};
+use types::types::SequenceId;
 
 // With the entries that a ring holds.
-pub fn stats_of(counters: Counters, pending: Ring<256>) -> ProducerStats
+pub fn stats_of(counters: Counters, pending: Ring<{ Rings::PENDING }>) -> ProducerStats
     ensures { result ≡ stats_of counters pending.len }
 {
     ProducerStats {
@@ -30,19 +31,19 @@ pub fn new_ids() -> SequenceIds
     ensures { result ≡ new_ids }
 {
     SequenceIds {
-        next_sequence_id: 0,
+        next_sequence_id: SequenceId(0),
         last_sequence_id_pushed: -1,
         last_sequence_id_published: -1,
     }
 }
 
 // The next id. Above 0 the pushed and the published number go with it.
-pub fn initial_ids(mut ids: SequenceIds, next: u64) -> SequenceIds
-    ensures { result ≡ initial_ids next ids }
+pub fn initial_ids(mut ids: SequenceIds, next: SequenceId) -> SequenceIds
+    ensures { result ≡ initial_ids next.0 ids }
 {
     ids.next_sequence_id = next;
-    if 0 < next {
-        let before = saturating_sub_one(signed_of(next));
+    if 0 < next.0 {
+        let before = saturating_sub_one(signed_of(next.0));
         ids.last_sequence_id_pushed = before;
         ids.last_sequence_id_published = before;
     }
@@ -50,11 +51,11 @@ pub fn initial_ids(mut ids: SequenceIds, next: u64) -> SequenceIds
 }
 
 // A receipt's id becomes the published number.
-pub fn published_ids(ids: SequenceIds, id: u64) -> SequenceIds
-    ensures { result ≡ published id ids }
+pub fn published_ids(ids: SequenceIds, id: SequenceId) -> SequenceIds
+    ensures { result ≡ published id.0 ids }
 {
     SequenceIds {
-        last_sequence_id_published: signed_of(id),
+        last_sequence_id_published: signed_of(id.0),
         ..ids
     }
 }

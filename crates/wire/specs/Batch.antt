@@ -1,5 +1,6 @@
 -- The payload of a batch frame (document 01, 'producer.rs: batch').
 use Rattle.std.specs.Prelude.{ℕ, ◌≤◌, ◌<◌, ◌^◌, ◌≡◌, List, [], ◌∷◌, ◌++◌, map, Bool, true, length, None, Option, Some, unwrap_or}
+use Rattle.types.specs.Bounds.{longest_payload, longest_key}
 use Rattle.types.specs.Values.{part_of, bytes_of, part_in, maybe_in}
 use Rattle.types.specs.declared.message.SingleMessage.{SingleMessage}
 use Rattle.wire.specs.Proto.{be32}
@@ -69,16 +70,16 @@ len_of (Some p) = p.len
 
 -- an item within the bounds of refusal 3, with an event time of 64 bits; what is absent is in bounds
 pub record Bounded (i : Item) : Type 0 where
-  pub payload : length i.payload ≤ 16777216
-  pub partition_key : length (unwrap_or i.partition_key []) ≤ 1024
-  pub ordering_key : length (unwrap_or i.ordering_key []) ≤ 1024
+  pub payload : length i.payload ≤ longest_payload
+  pub partition_key : length (unwrap_or i.partition_key []) ≤ longest_key
+  pub ordering_key : length (unwrap_or i.ordering_key []) ≤ longest_key
   pub event_time : unwrap_or i.event_time 0 < 2 ^ 64
 
 -- the same of a message whose bytes are in a store
 pub record WithinBounds (m : SingleMessage) : Type 0 where
-  pub payload : m.payload.len ≤ 16777216
-  pub partition_key : len_of m.partition_key ≤ 1024
-  pub ordering_key : len_of m.ordering_key ≤ 1024
+  pub payload : m.payload.len ≤ longest_payload
+  pub partition_key : len_of m.partition_key ≤ longest_key
+  pub ordering_key : len_of m.ordering_key ≤ longest_key
   pub event_time : unwrap_or m.event_time 0 < 2 ^ 64
 
 -- its parts lie in a store of n bytes (refusal 2)

@@ -5,4 +5,4 @@ use Rattle.upkeep.proofs.Keys.{Clearing}
 use Rattle.upkeep.proofs.pending.unmark.Given as goal
 
 abbrev pub invariant-loop-i : goal.invariant-loop-i
-invariant-loop-i l = (length l.marks ≡ 256) × Clearing l.id l.ids l.initial.marks l.marks l.i
+invariant-loop-i l = (length l.marks ≡ 256) × Clearing l.id.0 l.ids l.initial.marks l.marks l.i

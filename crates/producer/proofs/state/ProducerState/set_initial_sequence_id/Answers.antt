@@ -7,4 +7,4 @@ use Rattle.producer.proofs.Scalars.{with_core, starts}
 use Rattle.producer.proofs.state.ProducerState.set_initial_sequence_id.Goals as goal
 
 pub returns : goal.returns
-returns c = let a = c.args in left (ap (λ (k : Core). view (with_core k a.self)) c.set_initial_sequence_id-self.ensures ∙ starts a.self a.next)
+returns c = let a = c.args in left (ap (λ (k : Core). view (with_core k a.self)) c.set_initial_sequence_id-self.ensures ∙ starts a.self a.next.0)

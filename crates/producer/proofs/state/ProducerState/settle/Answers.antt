@@ -34,7 +34,7 @@ placed s f id r e = e ∙ ap (located id) (sym (keys_view s f))
 
 pub returns : goal.returns
 returns c =
-    let id = c.args.id in
+    let id = c.args.id.0 in
     let s = c.args.self.now in
     let f : Full s = record { outbound = omega arith; held = omega arith; pending = omega arith; ids = omega arith; marks = c.place_of.ensures.marks } in
     let i = c.in_ok-place.place in
@@ -51,7 +51,7 @@ returns c =
 
 pub returns-in_err-place : goal.returns-in_err-place
 returns-in_err-place c =
-    let id = c.args.id in
+    let id = c.args.id.0 in
     let s = c.args.self.now in
     let f : Full s = record { outbound = omega arith; held = omega arith; pending = omega arith; ids = omega arith; marks = c.place_of.ensures.marks } in
     let none = or_err c.place_of.result NotAnswerable _ (sym c.ok_or.ensures.value ∙ c.in_err-place.was) in

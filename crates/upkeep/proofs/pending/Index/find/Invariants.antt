@@ -5,4 +5,4 @@ use Rattle.upkeep.proofs.pending.Index.find.Given as goal
 
 abbrev pub invariant-loop-i : goal.invariant-loop-i
 invariant-loop-i l =
-    Missed 256 (wanted l.id l.any) (keys l.self.ids.now l.self.marks.now) l.self.ring.head l.self.ring.len l.i
+    Missed 256 (wanted l.id.0 l.any) (keys l.self.ids.now l.self.marks.now) l.self.ring.head l.self.ring.len l.i
