@@ -1,5 +1,5 @@
 -- `ProducerState::send_deadline`: the entry at the head is the front one.
-use Rattle.std.proofs.Common.{◌∙◌}
+use Rattle.std.proofs.Common.{◌∙◌, arith}
 use Rattle.producer.proofs.Full.{Full}
 use Rattle.producer.proofs.Queries.{send_deadline_lem}
 use Rattle.queue.specs.Run.{send_deadline}
@@ -11,4 +11,4 @@ returns c =
     let s = c.args.self.now in
     let h = c.type_inv.self in
     let f : Full s = record { outbound = h.1.0.1.0.1; held = h.1.1.0.1.0.1; pending = h.1.1.1.0.1.0.1; ids = h.1.1.1.1.0.1.0.1; marks = h.1.1.1.1.1.0.1.0.1 } in
-    asked s send_deadline (c.next_send_deadline.ensures ∙ send_deadline_lem s f _ c.slot-at.ensures _)
+    asked s send_deadline (c.next_send_deadline.ensures ∙ send_deadline_lem s f _ (omega (arith, c.slot-at.ensures)) _)
