@@ -1,7 +1,8 @@
 -- `ProducerState::receive`: what settling leaves, with the published number.
-use Rattle.std.proofs.Common.{◌∙◌}
+use Rattle.std.proofs.Common.{◌≡◌, ℕ, ap, ◌∙◌, arith}
 use Rattle.std.proofs.lemmas.Result.{err_from_is_err_and}
 use Rattle.queue.specs.Queue.{done}
+use Rattle.plans.specs.Settle.{core_published}
 use Rattle.producer.specs.View.{view}
 use Rattle.producer.specs.Apply.{store_core}
 use Rattle.producer.proofs.Receipts.{received, not_received}
@@ -12,10 +13,13 @@ returns c =
     let s = c.args.self.now in
     let t = c.settle.new.self in
     let m = c.args.receipt.message_id in
+    let id : ℕ = c.args.receipt.sequence_id.0 in
+    let core : c.published-self.result ≡ core_published id t.core =
+    c.published-self.ensures ∙ ap (λ (i : ℕ). core_published i t.core) (omega arith) in
     record {
       meets =
-          (λ j. (view (store_core (c.published-self.ensures j) t), done (c.in_ok-op.op, c.of_receipt.ensures j)))
-          ∙ received c.args.receipt.sequence_id.0 s t m c.in_ok-op.op c.in_ok-op.ensures;
+          (λ j. (view (store_core (core j) t), done (c.in_ok-op.op, c.of_receipt.ensures j)))
+          ∙ received id s t m c.in_ok-op.op c.in_ok-op.ensures;
       kept = tt;
     }
 
