@@ -1,4 +1,5 @@
--- The front frame as it goes out. These mirror the code: what a reader must believe is in crate `queue`.
+-- The front frame as it goes out. The contract of a take cites `frame_out` (`OwnParts` of crate `producer`); the rest mirrors the code, and
+-- what the frame says is in crate `queue`.
 use Rattle.std.specs.Prelude.{ℕ, ◌^◌, Bool, true, List, ltb, eqb, None, Option, Some}
 use Rattle.laws.specs.Choice.{pick}
 use Rattle.types.specs.Values.{clipped}

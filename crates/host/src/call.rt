@@ -1,6 +1,6 @@
-// One operation through the public methods, with the state by value. No call is inlined into another: the frames of all of
-// them together would need more stack than a main thread has. The state is stored before the answer is put, so that the
-// compiler sees that nothing comes between.
+// One operation through the public methods, with the state by value. A method on a state that is lent stores what it answers at
+// once, and is handed its arguments, so that the compiler keeps one state where the answer has it. None is inlined into another:
+// the frames of all of them together would need more stack than a main thread has.
 ghost use Rattle.std.specs.Prelude.{◌≤◌, length};
 ghost use Rattle.script.specs.Output.{Writes};
 
@@ -9,105 +9,103 @@ use crate::lent::{Table, call_drain, call_replay, call_snapshot, no_table};
 use crate::run::Drive;
 use crate::take::call_take;
 use crate::task::Task;
+use plans::send::Sending;
 use producer::state::ProducerState;
 use script::answer::put_done;
 use script::operation::Call;
 use script::write::Output;
-use types::types::ProducerHandle;
+use types::answer::SendDecision;
+use types::command::{CommandSendError, CommandSendReceipt};
+use types::entry::OpSend;
+use types::error::ProducerError;
+use types::settings::Setting;
+use types::types::{MessageId, ProducerHandle, SequenceId};
 
 #[inline(never)]
-fn call_send(s: &mut ProducerState, task: Task, out: &mut Output)
-    ensures { Writes out.old out.new }
-{
-    let a = task.sending();
-    let lent = task.lent_to_send();
-    let answer = if task.call == Call::QueueSendReserved {
-        let r = s.queue_send_reserved(
-            lent,
-            a.message,
-            a.reservation,
-            a.uuid,
-            a.publish_time,
-            a.now,
-        );
-        *s = r.state;
-        r.answer
-    } else {
-        let r = s.queue_send(lent, a.message, a.uuid, a.publish_time, a.now);
-        *s = r.state;
-        r.answer
-    };
-    out.put((task.call, answer));
-}
-
-#[inline(never)]
-fn call_flush(s: &mut ProducerState, task: Task, out: &mut Output)
-    ensures { Writes out.old out.new }
-{
-    let r = s.flush_batch(task.arguments.get(), task.arguments.behind(8).get());
+fn queue_send_reserved(
+    s: &mut ProducerState,
+    store: &[u8],
+    a: Sending,
+) -> Result<SendDecision, ProducerError> {
+    let r = s.queue_send_reserved(
+        store,
+        a.message,
+        a.reservation,
+        a.uuid,
+        a.publish_time,
+        a.now,
+    );
     *s = r.state;
-    out.put((task.call, r.answer));
+    r.answer
 }
 
 #[inline(never)]
-fn call_receipt(s: &mut ProducerState, task: Task, out: &mut Output)
-    ensures { Writes out.old out.new }
-{
-    let r = s.apply_receipt(task.arguments.get());
+fn queue_send(
+    s: &mut ProducerState,
+    store: &[u8],
+    a: Sending,
+) -> Result<SendDecision, ProducerError> {
+    let r = s.queue_send(store, a.message, a.uuid, a.publish_time, a.now);
     *s = r.state;
-    out.put((task.call, r.answer.map(|(op, id)| (id, op))));
+    r.answer
 }
 
 #[inline(never)]
-fn call_error(s: &mut ProducerState, task: Task, out: &mut Output)
-    ensures { Writes out.old out.new }
-{
-    let r = s.apply_send_error(task.arguments.get());
+fn flush_batch(s: &mut ProducerState, publish_time: u64, now: u64) -> Result<usize, ProducerError> {
+    let r = s.flush_batch(publish_time, now);
     *s = r.state;
-    out.put((task.call, r.answer.map(|(op, error)| (error, op))));
+    r.answer
 }
 
 #[inline(never)]
-fn call_ids(s: &mut ProducerState, task: Task, out: &mut Output)
-    ensures { Writes out.old out.new }
-{
-    put_done(out, task.call, ());
-    *s = s.set_initial_sequence_id(task.arguments.get());
-}
-
-#[inline(never)]
-fn call_name(s: &mut ProducerState, task: Task, out: &mut Output)
-    ensures { Writes out.old out.new }
-{
-    let r = s.set_name(task.name());
+fn apply_receipt(
+    s: &mut ProducerState,
+    receipt: CommandSendReceipt,
+) -> Result<(OpSend, MessageId), ProducerError> {
+    let r = s.apply_receipt(receipt);
     *s = r.state;
-    out.put((task.call, r.answer));
+    r.answer
 }
 
 #[inline(never)]
-fn call_set(s: &mut ProducerState, task: Task, out: &mut Output)
-    ensures { Writes out.old out.new }
-{
-    let r = s.set(task.setting());
+fn apply_send_error(
+    s: &mut ProducerState,
+    err: CommandSendError,
+) -> Result<(OpSend, i32), ProducerError> {
+    let r = s.apply_send_error(err);
     *s = r.state;
-    out.put((task.call, r.answer));
+    r.answer
 }
 
 #[inline(never)]
-fn call_close(s: &mut ProducerState, task: Task, out: &mut Output)
-    ensures { Writes out.old out.new }
-{
-    put_done(out, task.call, ());
-    *s = s.close();
-}
-
-#[inline(never)]
-fn call_resend(s: &mut ProducerState, task: Task, out: &mut Output)
-    ensures { Writes out.old out.new }
-{
+fn replay_pending_outbound(s: &mut ProducerState) -> Result<usize, ProducerError> {
     let r = s.replay_pending_outbound();
     *s = r.state;
-    out.put((task.call, r.answer));
+    r.answer
+}
+
+#[inline(never)]
+fn set_name(s: &mut ProducerState, name: &[u8]) -> Result<(), ProducerError> {
+    let r = s.set_name(name);
+    *s = r.state;
+    r.answer
+}
+
+#[inline(never)]
+fn set(s: &mut ProducerState, setting: Setting) -> Result<(), ProducerError> {
+    let r = s.set(setting);
+    *s = r.state;
+    r.answer
+}
+
+#[inline(never)]
+fn set_initial_sequence_id(s: &mut ProducerState, id: SequenceId) {
+    *s = s.set_initial_sequence_id(id);
+}
+
+#[inline(never)]
+fn close(s: &mut ProducerState) {
+    *s = s.close();
 }
 
 #[inline(never)]
@@ -138,17 +136,42 @@ pub(crate) fn call(s: &mut ProducerState, last: &mut Table, task: Task, out: &mu
     ensures { Writes out.old out.new }
 {
     match task.call {
-        Call::QueueSendReserved | Call::QueueSend => call_send(s, task, out),
-        Call::FlushBatch => call_flush(s, task, out),
+        Call::QueueSendReserved => {
+            let answer = queue_send_reserved(s, task.lent_to_send(), task.sending());
+            out.put((task.call, answer));
+        }
+        Call::QueueSend => {
+            let answer = queue_send(s, task.lent_to_send(), task.sending());
+            out.put((task.call, answer));
+        }
+        Call::FlushBatch => {
+            let answer = flush_batch(s, task.arguments.get(), task.arguments.behind(8).get());
+            out.put((task.call, answer));
+        }
         Call::NextOutboundFrame => call_take(s, task, out),
-        Call::ApplyReceipt => call_receipt(s, task, out),
-        Call::ApplySendError => call_error(s, task, out),
+        Call::ApplyReceipt => {
+            let answer = apply_receipt(s, task.arguments.get());
+            out.put((task.call, answer.map(|(op, id)| (id, op))));
+        }
+        Call::ApplySendError => {
+            let answer = apply_send_error(s, task.arguments.get());
+            out.put((task.call, answer.map(|(op, error)| (error, op))));
+        }
         Call::DrainTimedOutSends | Call::DrainPendingSends => call_drain(s, task, out),
         Call::SnapshotPendingSends => call_snapshot(s, last, task, out),
         Call::ReplaySnapshots | Call::ReplayLastSnapshot => call_replay(s, last, task, out),
-        Call::ReplayPendingOutbound => call_resend(s, task, out),
-        Call::SetInitialSequenceId => call_ids(s, task, out),
-        Call::SetName => call_name(s, task, out),
+        Call::ReplayPendingOutbound => {
+            let answer = replay_pending_outbound(s);
+            out.put((task.call, answer));
+        }
+        Call::SetInitialSequenceId => {
+            set_initial_sequence_id(s, task.arguments.get());
+            put_done(out, task.call, ());
+        }
+        Call::SetName => {
+            let answer = set_name(s, task.name());
+            out.put((task.call, answer));
+        }
         Call::SetMaxMessageSize
         | Call::SetMaxBatchSizeBytes
         | Call::SetMaxMessagesInBatch
@@ -156,8 +179,14 @@ pub(crate) fn call(s: &mut ProducerState, last: &mut Table, task: Task, out: &mu
         | Call::SetChunkingEnabled
         | Call::SetSendTimeout
         | Call::SetBatchingMaxPublishDelay
-        | Call::SetBrokerReady => call_set(s, task, out),
-        Call::Close => call_close(s, task, out),
+        | Call::SetBrokerReady => {
+            let answer = set(s, task.setting());
+            out.put((task.call, answer));
+        }
+        Call::Close => {
+            close(s);
+            put_done(out, task.call, ());
+        }
         _ => call_query(s, task, out),
     }
 }

@@ -1,5 +1,10 @@
 // The take, with the output itself as the buffer: the payload stands 10 bytes behind the answer's start.
 ghost use Rattle.std.specs.Prelude.{◌≡◌, ◌-◌, ◌≤◌, length};
+ghost use Rattle.queue.specs.Run.{take};
+ghost use Rattle.queue.specs.Take.{written};
+ghost use Rattle.producer.specs.Meets.{Meets};
+ghost use Rattle.producer.specs.Take.{told_frame, OwnParts};
+ghost use Rattle.producer.specs.View.{view};
 ghost use Rattle.script.specs.Output.{Wrote, Writes};
 ghost use Rattle.host.specs.Framing.{Completes, bytes_taken};
 
@@ -62,14 +67,28 @@ pub(crate) fn put_taken(
     }
 }
 
+// The take of a state that is lent.
 #[inline(never)]
+fn next_outbound_frame(
+    s: &mut ProducerState,
+    store: &[u8],
+    buffer: &mut [u8],
+) -> Result<OutboundFrame, ProducerError>
+    ensures meets { Meets store.now (take (length buffer.old)) s.old s.new (told_frame store.now buffer.new result) }
+    ensures buffer_after { buffer.new ≡ written (told_frame store.now buffer.new result) buffer.old }
+    ensures own { OwnParts store.now (view s.old) (view s.old).out.frames result }
+{
+    let r = s.next_outbound_frame(store, buffer);
+    *s = r.state;
+    r.answer
+}
+
 pub(crate) fn call_take(s: &mut ProducerState, task: Task, out: &mut Output)
     requires { out.old.at ≤ length out.old.bytes.now }
     ensures { Writes out.old out.new }
 {
     let lent = task.lent_to_take();
     let buffer = buffer_of(task, out);
-    let r = s.next_outbound_frame(lent, &mut out.bytes[buffer.start..buffer.end]);
-    *s = r.state;
-    put_taken(out, buffer, lent, r.answer);
+    let answer = next_outbound_frame(s, lent, &mut out.bytes[buffer.start..buffer.end]);
+    put_taken(out, buffer, lent, answer);
 }

@@ -10,15 +10,15 @@ use Rattle.types.specs.declared.entry.OpSend.{OpSend}
 use Rattle.types.specs.declared.entry.Publish.{Publish}
 use Rattle.types.specs.declared.error.ProducerError.{ProducerError}
 use Rattle.types.specs.declared.error.ProducerError.TheVariants.{TooShort}
-use Rattle.queue.specs.Queue.{Queue, refused, done, empty_outgoing, with_pending, with_out}
+use Rattle.queue.specs.Queue.{Queue, Answer, Outcome, refused, done, empty_outgoing, with_pending, with_out}
 use Rattle.queue.specs.Ids.{elapsed, send_deadline}
-use Rattle.queue.specs.Settle.{handed, due_count, unmark, unmark_all, hand_out, drain_timed_out_sends, table_after}
+use Rattle.queue.specs.Settle.{Handed, handed, due_count, unmark, unmark_all, hand_out, drain_timed_out_sends, table_after}
 use Rattle.queue.specs.Tables.{drain_pending_sends}
 use Rattle.upkeep.specs.Pending.{cleared_all}
 use Rattle.tables.specs.Drain.{cleared_each, gone_count}
 use Rattle.rules.specs.Blank.{no_entry}
 use Rattle.upkeep.proofs.Keys.{length_cleared}
-use Rattle.producer.specs.Tables.{Drains, gone_of, drain_of, plan_of, drained_state}
+use Rattle.producer.specs.Tables.{MeetsDrain, Drains, gone_of, plan_of, drained_state}
 use Rattle.producer.specs.View.{view, entries, slots_of}
 use Rattle.producer.specs.declared.state.ProducerState.{ProducerState}
 use Rattle.producer.proofs.Entries.{length_entries, unmarked_entries}
@@ -101,6 +101,15 @@ left_of None q = with_out empty_outgoing (with_pending [] q)
 left_of (Some time) q =
     with_pending (unmark_all (gone_of (Some time) q) (drop (count_of (Some time) q) q.pending)) q
 
+abbrev drain_of : Option ℕ → ℕ → Queue → Outcome Handed
+drain_of None room q = drain_pending_sends room q
+drain_of (Some time) room q = drain_timed_out_sends time room q
+
+meets : (due : Option ℕ) (room : ℕ) (s t : ProducerState) (told : Answer Handed)
+    → ◌≡◌ {A = Outcome Handed} (view t, told) (drain_of due room (view s)) → MeetsDrain due room s t told
+meets None room s t told e = e
+meets (Some time) room s t told e = e
+
 drain_is : (due : Option ℕ) (room : ℕ) (q : Queue) → drain_of due room q ≡ hand_out room (gone_of due q) q (left_of due q)
 unfolding drain_pending_sends drain_timed_out_sends
 drain_is None room q = refl
@@ -175,7 +184,7 @@ module _ (s : ProducerState) (due : Option ℕ) (es : List OpSend) (e : es ≡ (
       let gone : List OpSend = gone_of due (view s) in
       let short : ltb (length ys) (length gone) ≡ true = ap (ltb (length ys)) (sym (plans s due es e).many) ∙ both.0 in
       subst (λ (y : ProducerError). Drains due s ys (Err y) s ys) both.1
-      (sym (drain_is due (length ys) (view s) ∙ ap (λ (b : Bool). pick b (view s, refused 9 []) (left_of due (view s), done (handed gone))) short), refl, refl)
+      (meets due (length ys) s s (refused 9 []) (sym (drain_is due (length ys) (view s) ∙ ap (λ (b : Bool). pick b (view s, refused 9 []) (left_of due (view s), done (handed gone))) short)), refl, refl)
 
   pub drains_done : Full s → (k : ℕ) → plan_of due es (length ys) s ≡ Ok k → (zs : List OpSend) → zs ≡ table_after (take (length ys) (take k es)) ys
       → Drains due s ys (Ok k) (drained_state due es k s) zs
@@ -188,9 +197,11 @@ module _ (s : ProducerState) (due : Option ℕ) (es : List OpSend) (e : es ≡ (
       let many : k ≡ length gone = g.plan.many in
       let back : take k zs ≡ gone = ap (take k) zg ∙ take_at gone (drop (length gone) ys) k (sym g.plan.many) in
       let c : k ≡ count_of due (view s) =
-      g.plan.many ∙ ap length (sym (gone_is due (view s))) ∙ length-take-le (count_of due (view s)) (view s).pending (count_most due (view s)) in (
-        (λ j. (left_view s f due es k g.plan.gone c j, done (record { count = many j; entries = back j })))
-            ∙ sym (drain_is due (length ys) (view s) ∙ ap (λ (b : Bool). pick b (view s, refused 9 []) (left_of due (view s), done (handed gone))) room),
+      g.plan.many ∙ ap length (sym (gone_is due (view s))) ∙ length-take-le (count_of due (view s)) (view s).pending (count_most due (view s)) in
+      let told : Handed = record { count = k; entries = take k zs } in (
+        meets due (length ys) s (drained_state due es k s) (done told)
+            ((λ j. (left_view s f due es k g.plan.gone c j, done (record { count = many j; entries = back j })))
+            ∙ sym (drain_is due (length ys) (view s) ∙ ap (λ (b : Bool). pick b (view s, refused 9 []) (left_of due (view s), done (handed gone))) room)),
         zg ∙ ap (λ (l : List OpSend). table_after l ys) (sym back),
         tt,
       )

@@ -13,14 +13,13 @@ use Rattle.queue.specs.Queue.{Queue, Outcome, refused, done, empty_outgoing}
 use Rattle.queue.specs.Settings.{changed}
 use Rattle.queue.specs.Settle.{Handed, handed, table_after}
 use Rattle.queue.specs.Tables.{batched_of, framed_of, failed, snapshot_pending_sends}
-use Rattle.queue.specs.Told.{Kept}
 use Rattle.tables.specs.Scalars.{core_snapshot}
 use Rattle.tables.specs.Picked.{kind_of, Lists}
 use Rattle.tables.specs.declared.list.Listed.{Listed}
 use Rattle.tables.specs.Snapshot.{snapshot_of}
 use Rattle.tables.specs.declared.snapshot.Snapshot.{Snapshot}
 use Rattle.producer.specs.Apply.{store_core}
-use Rattle.producer.specs.Tables.{told_snapshot, dropped_left, replay_left}
+use Rattle.producer.specs.Tables.{Snaps}
 use Rattle.producer.specs.View.{view, slots_of}
 use Rattle.producer.specs.declared.state.ProducerState.{ProducerState}
 use Rattle.producer.proofs.Plans.{ok_then, err_else}
@@ -70,14 +69,6 @@ left_view s n e =
         batch = empty_outgoing.batch;
       };
     }
-
--- what the call owes, of the answer, the state and the two tables after it
-abbrev pub Snaps : ProducerState → List OpSend → List OpSend → Result Snapshot ProducerError → ProducerState → List OpSend → List OpSend → Type 0
-Snaps s ds rs a t zs us =
-    ◌≡◌ {A = Outcome (Handed × Handed)} (view t, told_snapshot a zs us) (snapshot_pending_sends (length ds) (length rs) (view s))
-    × (zs ≡ dropped_left (told_snapshot a zs us) ds)
-    × (us ≡ replay_left (told_snapshot a zs us) rs)
-    × Kept (told_snapshot a zs us) s t
 
 -- the counts that are answered are the planned ones
 pub counted : (s : ProducerState) (ds rs : List OpSend) (m k : Snapshot) (t : ProducerState) (zs us : List OpSend)

@@ -1,15 +1,14 @@
--- What drains and the snapshot answer, and their steps.
-use Rattle.std.specs.Prelude.{◌≡◌, ℕ, List, length, take, Err, None, Ok, Option, Result, Some}
+-- What drains and the snapshot answer and promise, and their steps.
+use Rattle.std.specs.Prelude.{◌≡◌, ℕ, List, [], length, take, Err, None, Ok, Option, Result, Some}
 use Rattle.types.specs.declared.entry.OpSend.{OpSend}
-use Rattle.queue.specs.Queue as queue
 use Rattle.queue.specs.Queue.{Queue, Answer, refused, done}
-use Rattle.queue.specs.Settle.{Handed, due_count, drain_timed_out_sends, table_after}
-use Rattle.queue.specs.Tables.{drain_pending_sends}
+use Rattle.queue.specs.Run.{drain, timeouts, snapshot}
+use Rattle.queue.specs.Settle.{Handed, due_count, table_after}
 use Rattle.queue.specs.Told.{Kept, told_error}
 use Rattle.tables.specs.Drain.{cleared_each, gone_count, handout_of}
 use Rattle.tables.specs.Scalars.{core_after}
 use Rattle.tables.specs.declared.snapshot.Snapshot.{Snapshot}
-use Rattle.producer.specs.View.{view}
+use Rattle.producer.specs.Meets.{Meets}
 use Rattle.producer.specs.declared.state.ProducerState.{ProducerState}
 use Rattle.types.specs.declared.error.ProducerError.{ProducerError}
 
@@ -39,12 +38,27 @@ abbrev pub replay_left : Answer (Handed × Handed) → List OpSend → List OpSe
 replay_left (refused n values) table = table
 replay_left (done gone) table = table_after gone.1.entries table
 
--- ── the steps ──
+-- ── what is promised: of the state and the tables before, the answer, and the state and the tables after ──
 
--- both drains: of the entries that are due at a time, or of all
-abbrev pub drain_of : Option ℕ → ℕ → Queue → queue.Outcome Handed
-drain_of None room q = drain_pending_sends room q
-drain_of (Some time) room q = drain_timed_out_sends time room q
+-- the call of a drain: of the entries that are due at a time, or of all
+abbrev pub MeetsDrain : Option ℕ → ℕ → ProducerState → ProducerState → Answer Handed → Type 0
+MeetsDrain None room s t told = Meets [] (drain room) s t told
+MeetsDrain (Some time) room s t told = Meets [] (timeouts time room) s t told
+
+abbrev pub Drains : Option ℕ → ProducerState → List OpSend → Result ℕ ProducerError → ProducerState → List OpSend → Type 0
+Drains due s ys a t zs =
+    MeetsDrain due (length ys) s t (told_table a zs)
+    × (zs ≡ table_left (told_table a zs) ys)
+    × Kept (told_table a zs) s t
+
+abbrev pub Snaps : ProducerState → List OpSend → List OpSend → Result Snapshot ProducerError → ProducerState → List OpSend → List OpSend → Type 0
+Snaps s ds rs a t zs us =
+    Meets [] (snapshot (length ds) (length rs)) s t (told_snapshot a zs us)
+    × (zs ≡ dropped_left (told_snapshot a zs us) ds)
+    × (us ≡ replay_left (told_snapshot a zs us) rs)
+    × Kept (told_snapshot a zs us) s t
+
+-- ── the steps ──
 
 abbrev pub gone_of : Option ℕ → Queue → List OpSend
 gone_of None q = q.pending
@@ -60,10 +74,3 @@ drained_state due es count s =
       core = core_after due count s.core;
       pending_marks = cleared_each (take count es) s.pending_ids s.pending_marks;
     }
-
--- what a drain owes, of the answer, the state and the table after it
-abbrev pub Drains : Option ℕ → ProducerState → List OpSend → Result ℕ ProducerError → ProducerState → List OpSend → Type 0
-Drains due s ys a t zs =
-    ◌≡◌ {A = queue.Outcome Handed} (view t, told_table a zs) (drain_of due (length ys) (view s))
-    × (zs ≡ table_left (told_table a zs) ys)
-    × Kept (told_table a zs) s t

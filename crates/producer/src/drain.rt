@@ -1,11 +1,8 @@
 // Drains and the snapshot: pending entries handed out in tables that the caller lends (document 01, 'ids and clocks' and
 // 'receipts, errors, snapshot, replay').
-ghost use Rattle.std.specs.Prelude.{◌≡◌, [], length};
-ghost use Rattle.queue.specs.Run.{drain, timeouts, snapshot};
-ghost use Rattle.queue.specs.Told.{Kept};
+ghost use Rattle.std.specs.Prelude.{None, Some};
 ghost use Rattle.tables.specs.Picked.{Lists, kind_of};
-ghost use Rattle.producer.specs.Meets.{Meets};
-ghost use Rattle.producer.specs.Tables.{Drains, table_left, told_table, told_snapshot, dropped_left, replay_left};
+ghost use Rattle.producer.specs.Tables.{Drains, Snaps};
 ghost use Rattle.producer.specs.View.{view};
 
 use crate::answer::Answered;
@@ -22,6 +19,7 @@ use types::error::ProducerError;
 
 impl ProducerState {
     // Both drains: the entries that are due at a time, or all, leave, and their ids the index.
+    #[inline(never)]
     fn hand_out(&mut self, due: Option<u64>, table: &mut [OpSend]) -> Result<usize, ProducerError>
         ensures { Drains due self.old table.old result self.new table.new }
     {
@@ -41,9 +39,7 @@ impl ProducerState {
 
     // All entries. Batch and frames are emptied with them.
     pub fn drain_pending_sends(mut self, table: &mut [OpSend]) -> Answered<usize>
-        ensures meets { Meets [] (drain (length table.old)) self result.state (told_table result.answer table.new) }
-        ensures left { table.new ≡ table_left (told_table result.answer table.new) table.old }
-        ensures kept { Kept (told_table result.answer table.new) self result.state }
+        ensures { Drains None self table.old result.answer result.state table.new }
     {
         Answered {
             answer: self.hand_out(None, table),
@@ -53,9 +49,7 @@ impl ProducerState {
 
     // The entries from the front that are due. Frames and batched messages stay.
     pub fn drain_timed_out_sends(mut self, time: u64, table: &mut [OpSend]) -> Answered<usize>
-        ensures meets { Meets [] (timeouts time (length table.old)) self result.state (told_table result.answer table.new) }
-        ensures left { table.new ≡ table_left (told_table result.answer table.new) table.old }
-        ensures kept { Kept (told_table result.answer table.new) self result.state }
+        ensures { Drains (Some time) self table.old result.answer result.state table.new }
     {
         Answered {
             answer: self.hand_out(Some(time), table),
@@ -71,15 +65,13 @@ impl ProducerState {
         picked(pending.as_slice(), OfKind { batched })
     }
 
+    #[inline(never)]
     fn hand_out_both(
         &mut self,
         dropped: &mut [OpSend],
         replay: &mut [OpSend],
     ) -> Result<Snapshot, ProducerError>
-        ensures meets { Meets [] (snapshot (length dropped.old) (length replay.old)) self.old self.new (told_snapshot result dropped.new replay.new) }
-        ensures dropped_left { dropped.new ≡ dropped_left (told_snapshot result dropped.new replay.new) dropped.old }
-        ensures replay_left { replay.new ≡ replay_left (told_snapshot result dropped.new replay.new) replay.old }
-        ensures kept { Kept (told_snapshot result dropped.new replay.new) self.old self.new }
+        ensures { Snaps self.old dropped.old replay.old result self.new dropped.new replay.new }
     {
         let batched = self.of_kind(true);
         let framed = self.of_kind(false);
@@ -97,10 +89,7 @@ impl ProducerState {
         dropped: &mut [OpSend],
         replay: &mut [OpSend],
     ) -> Answered<Snapshot>
-        ensures meets { Meets [] (snapshot (length dropped.old) (length replay.old)) self result.state (told_snapshot result.answer dropped.new replay.new) }
-        ensures dropped_left { dropped.new ≡ dropped_left (told_snapshot result.answer dropped.new replay.new) dropped.old }
-        ensures replay_left { replay.new ≡ replay_left (told_snapshot result.answer dropped.new replay.new) replay.old }
-        ensures kept { Kept (told_snapshot result.answer dropped.new replay.new) self result.state }
+        ensures { Snaps self dropped.old replay.old result.answer result.state dropped.new replay.new }
     {
         Answered {
             answer: self.hand_out_both(dropped, replay),

@@ -69,6 +69,7 @@ impl ProducerState {
         Listed { items, len }
     }
 
+    #[inline(never)]
     fn resend(&mut self) -> Result<usize, ProducerError>
         ensures meets { Meets [] resend self.old self.new (told result) }
         ensures kept { Kept (told result) self.old self.new }
@@ -97,6 +98,7 @@ impl ProducerState {
         }
     }
 
+    #[inline(never)]
     fn replay(&mut self, table: &[OpSend]) -> Result<(), ProducerError>
         ensures meets { Meets [] (replay table.now) self.old self.new (told result) }
         ensures kept { Kept (told result) self.old self.new }

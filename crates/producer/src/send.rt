@@ -16,6 +16,7 @@ use types::message::OutgoingMessage;
 
 impl ProducerState {
     // An accepted send takes the reservation; a refused one leaves it with the caller.
+    #[inline(never)]
     pub fn send(&mut self, store: &[u8], a: Sending) -> Result<SendDecision, ProducerError>
         ensures meets { Meets store.now (send (sending a.message a.reservation.bytes a.uuid a.publish_time a.now)) self.old self.new (told_send result) }
         ensures kept { KeptSend a.message (view self.old) (told_send result) self.old self.new }
@@ -68,6 +69,7 @@ impl ProducerState {
     }
 
     // The count of frames made, 0 or 1.
+    #[inline(never)]
     pub fn flush(&mut self, publish_time: u64) -> Result<usize, ProducerError>
         ensures meets { Meets [] (flush publish_time) self.old self.new (told result) }
         ensures kept { Kept (told result) self.old self.new }

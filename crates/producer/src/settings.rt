@@ -15,6 +15,7 @@ use types::types::SequenceId;
 
 impl ProducerState {
     // The planned scalars; of a refusal the state stays as it was.
+    #[inline(never)]
     fn change(&mut self, plan: Result<Core, ProducerError>) -> Result<(), ProducerError>
         ensures { (self.new, result) ≡ changed_by plan self.old }
     {

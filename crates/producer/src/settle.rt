@@ -80,6 +80,7 @@ impl ProducerState {
         Ok(op)
     }
 
+    #[inline(never)]
     fn receive(&mut self, receipt: CommandSendReceipt) -> Result<(OpSend, MessageId), ProducerError>
         ensures meets { Meets [] (run.receipt receipt.sequence_id.0 receipt.message_id) self.old self.new (told result) }
         ensures kept { Kept (told result) self.old self.new }
@@ -90,6 +91,7 @@ impl ProducerState {
         Ok((op, MessageId::of_receipt(receipt.message_id)))
     }
 
+    #[inline(never)]
     fn fail(&mut self, err: CommandSendError) -> Result<(OpSend, i32), ProducerError>
         ensures meets { Meets [] (send_error err.sequence_id.0 err.error) self.old self.new (told result) }
         ensures kept { Kept (told result) self.old self.new }

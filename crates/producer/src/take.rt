@@ -18,6 +18,7 @@ use wire::copy::copy;
 
 impl ProducerState {
     // Hands out the front frame, with its payload at the start of `buffer`, and moves the state in place.
+    #[inline(never)]
     pub fn take_front(
         &mut self,
         store: &[u8],

@@ -7,25 +7,18 @@ use Rattle.producer.proofs.state.ProducerState.hand_out_both.Goals as goal
 pub returns : goal.returns
 returns c =
     let s = c.args.self.now in
-    let all =
-    counted s c.args.dropped.now c.args.replay.now _ c.in_ok-counts.counts _ _ _ (omega arith) (omega arith)
+    rw c.after_snapshot-self.ensures
+    (counted s c.args.dropped.now c.args.replay.now _ c.in_ok-counts.counts _ _ _ (omega arith) (omega arith)
     (snaps_done s c.args.dropped.now c.args.replay.now c.in_ok-counts.counts
     (planned_by s c.args.dropped.now c.args.replay.now c.of_kind-batched.result c.of_kind-framed.result c.of_kind-batched.ensures c.of_kind-framed.ensures ∙ sym c.in_ok-counts.ensures)
     c.copy_entries.new.table c.copy_entries-2.new.table
     (rw (← c.of_kind-batched.ensures.same, ← c.as_slice.ensures) c.copy_entries.ensures)
-    (rw (← c.of_kind-framed.ensures.same, ← c.as_slice-2.ensures) c.copy_entries-2.ensures)) in
-    record { meets = rw c.after_snapshot-self.ensures all.0; dropped_left = all.1; replay_left = all.2; kept = tt }
+    (rw (← c.of_kind-framed.ensures.same, ← c.as_slice-2.ensures) c.copy_entries-2.ensures)))
 
 pub returns-in_err-counts : goal.returns-in_err-counts
 returns-in_err-counts c =
     let s = c.args.self.now in
-    let all =
-    snaps_short s c.args.dropped.now c.args.replay.now _
-    (planned_by s c.args.dropped.now c.args.replay.now c.of_kind-batched.result c.of_kind-framed.result c.of_kind-batched.ensures c.of_kind-framed.ensures ∙ sym c.in_err-counts.ensures) in
     let p = err_from_is_err_and c.from_residual.result c.from_residual.ensures.1 in
-    record {
-      meets = rw (p.1, p.2) all.0;
-      dropped_left = rw p.1 all.1;
-      replay_left = rw p.1 all.2;
-      kept = rw p.1 all.3;
-    }
+    rw (p.1, p.2)
+    (snaps_short s c.args.dropped.now c.args.replay.now _
+    (planned_by s c.args.dropped.now c.args.replay.now c.of_kind-batched.result c.of_kind-framed.result c.of_kind-batched.ensures c.of_kind-framed.ensures ∙ sym c.in_err-counts.ensures))
