@@ -19,6 +19,7 @@ use Rattle.wire.specs.Batch.{item, item_of, batch_payload, All, InStore}
 use Rattle.wire.specs.Length.{stopped, item_length, batch_length}
 use Rattle.wire.proofs.ItemLaws.{batch_step, all_at}
 use Rattle.queue.specs.Frame.{single_in, all_in}
+use Rattle.queue.specs.Sizes.{held_size}
 use Rattle.laws.proofs.Choice.{and_left, and_right}
 use Rattle.frames.specs.Span.{with_item, batch_span}
 use Rattle.frames.specs.declared.span.Span.{Span}
@@ -93,22 +94,22 @@ pub all_in_lem : (n : ℕ) (ms : List SingleMessage) → all_in n ms ≡ true �
 all_in_lem n [] e = tt
 all_in_lem n (m ∷ ms) e = (single_in_lem n m (and_left (single_in n m) (all_in n ms) e), all_in_lem n ms (and_right (single_in n m) (all_in n ms) e))
 
-module _ (held : List SingleMessage) (full : length held ≡ 512) (h k : ℕ) where
-  pub held_length : length (ring 512 held h k) ≡ min k 512
-  held_length = length_ring 512 (lit< tt) held full h k
+module _ (held : List SingleMessage) (full : length held ≡ held_size) (h k : ℕ) where
+  pub held_length : length (ring held_size held h k) ≡ min k held_size
+  held_length = length_ring held_size (lit< tt) held full h k
 
   -- the messages as a loop reads them, each at its slot
-  pub held_at : (i at : ℕ) (d : SingleMessage) → at ≡ slot 512 h i → i < min k 512 → get_or (ring 512 held h k) i d ≡ get_or held at d
-  held_at i at d q b = ring_at 512 (lit< tt) held full d h k i b ∙ ap (λ (j : ℕ). get_or held j d) (sym q)
+  pub held_at : (i at : ℕ) (d : SingleMessage) → at ≡ slot held_size h i → i < min k held_size → get_or (ring held_size held h k) i d ≡ get_or held at d
+  held_at i at d q b = ring_at held_size (lit< tt) held full d h k i b ∙ ap (λ (j : ℕ). get_or held j d) (sym q)
 
-  module _ (store : List ℕ) (i at : ℕ) (d : SingleMessage) (q : at ≡ slot 512 h i) (b : i < min k 512) where
-    pub held_in_lem : all_in (length store) (ring 512 held h k) ≡ true → InStore (length store) (get_or held at d)
+  module _ (store : List ℕ) (i at : ℕ) (d : SingleMessage) (q : at ≡ slot held_size h i) (b : i < min k held_size) where
+    pub held_in_lem : all_in (length store) (ring held_size held h k) ≡ true → InStore (length store) (get_or held at d)
     held_in_lem e =
         subst (InStore (length store)) (held_at i at d q b)
-        (all_at (InStore (length store)) (ring 512 held h k) i d (all_in_lem (length store) (ring 512 held h k) e) (omega (arith, held_length)))
+        (all_at (InStore (length store)) (ring held_size held h k) i d (all_in_lem (length store) (ring held_size held h k) e) (omega (arith, held_length)))
 
-    pub held_next : batch_payload store (drop i (ring 512 held h k))
-        ≡ item (item_of store (get_or held at d)) ++ batch_payload store (drop (i + 1) (ring 512 held h k))
+    pub held_next : batch_payload store (drop i (ring held_size held h k))
+        ≡ item (item_of store (get_or held at d)) ++ batch_payload store (drop (i + 1) (ring held_size held h k))
     held_next =
-        batch_step store (ring 512 held h k) i d (omega (arith, held_length))
-        ∙ ap (λ (m : SingleMessage). item (item_of store m) ++ batch_payload store (drop (i + 1) (ring 512 held h k))) (held_at i at d q b)
+        batch_step store (ring held_size held h k) i d (omega (arith, held_length))
+        ∙ ap (λ (m : SingleMessage). item (item_of store m) ++ batch_payload store (drop (i + 1) (ring held_size held h k))) (held_at i at d q b)

@@ -8,6 +8,7 @@ use Rattle.laws.specs.Ring.{ring, slot}
 use Rattle.laws.proofs.Rings.{ring_at, length_ring}
 use Rattle.types.specs.declared.entry.OpSend.{OpSend}
 use Rattle.types.specs.declared.frame.FrameRecord.{FrameRecord}
+use Rattle.queue.specs.Sizes.{outbound_size}
 use Rattle.queue.specs.Tables.{borne, unborne}
 use Rattle.tables.specs.Unborne.{borne_by, free}
 use Rattle.producer.specs.Replay.{frame_id}
@@ -31,27 +32,27 @@ unborne_ids rs (op ∷ l) =
     go true = refl
     go false = refl
 
-pub few_names : (s : ProducerState) → length (map frame_id (view s).out.frames) ≤ min s.core.rings.outbound.len 1024
+pub few_names : (s : ProducerState) → length (map frame_id (view s).out.frames) ≤ min s.core.rings.outbound.len outbound_size
 unfolding view
 few_names s =
-    omega (arith, length-map (view s).out.frames frame_id, few_ring 1024 s.outbound s.core.rings.outbound.head s.core.rings.outbound.len)
+    omega (arith, length-map (view s).out.frames frame_id, few_ring outbound_size s.outbound s.core.rings.outbound.head s.core.rings.outbound.len)
 
-module _ (s : ProducerState) (full : length s.outbound ≡ 1024) where
-  pub length_names : length (map frame_id (view s).out.frames) ≡ min s.core.rings.outbound.len 1024
+module _ (s : ProducerState) (full : length s.outbound ≡ outbound_size) where
+  pub length_names : length (map frame_id (view s).out.frames) ≡ min s.core.rings.outbound.len outbound_size
   unfolding view
   length_names =
-      length-map (ring 1024 s.outbound s.core.rings.outbound.head s.core.rings.outbound.len) frame_id
-      ∙ length_ring 1024 (lit< tt) s.outbound full s.core.rings.outbound.head s.core.rings.outbound.len
+      length-map (ring outbound_size s.outbound s.core.rings.outbound.head s.core.rings.outbound.len) frame_id
+      ∙ length_ring outbound_size (lit< tt) s.outbound full s.core.rings.outbound.head s.core.rings.outbound.len
 
   -- the id read at a place's slot is the one listed there
-  pub name_there : (i at : ℕ) (d : FrameRecord) → at ≡ slot 1024 s.core.rings.outbound.head i → i < min s.core.rings.outbound.len 1024
+  pub name_there : (i at : ℕ) (d : FrameRecord) → at ≡ slot outbound_size s.core.rings.outbound.head i → i < min s.core.rings.outbound.len outbound_size
       → get_or (map frame_id (view s).out.frames) i (frame_id (get_or s.outbound at d)) ≡ frame_id (get_or s.outbound at d)
   unfolding view
   name_there i at d q b =
       let h = s.core.rings.outbound.head in
       let n = s.core.rings.outbound.len in
-      let e : length (map frame_id (view s).out.frames) ≡ min n 1024 = length_names in
+      let e : length (map frame_id (view s).out.frames) ≡ min n outbound_size = length_names in
       get_or_default (map frame_id (view s).out.frames) i (frame_id (get_or s.outbound at d)) (frame_id d) (omega (arith, e))
-      ∙ get_or-map frame_id (ring 1024 s.outbound h n) i d
-      ∙ ap frame_id (ring_at 1024 (lit< tt) s.outbound full d h n i b)
+      ∙ get_or-map frame_id (ring outbound_size s.outbound h n) i d
+      ∙ ap frame_id (ring_at outbound_size (lit< tt) s.outbound full d h n i b)
       ∙ ap (λ (k : ℕ). frame_id (get_or s.outbound k d)) (sym q)

@@ -13,6 +13,7 @@ use Rattle.types.specs.declared.error.ProducerError.TheVariants.{TooShort}
 use Rattle.queue.specs.Queue.{Queue, Answer, Outcome, refused, done, empty_outgoing, with_pending, with_out}
 use Rattle.queue.specs.Ids.{elapsed, send_deadline}
 use Rattle.queue.specs.Settle.{Handed, handed, due_count, unmark, unmark_all, hand_out, drain_timed_out_sends, table_after}
+use Rattle.queue.specs.Sizes.{outbound_size, held_size, pending_size}
 use Rattle.queue.specs.Tables.{drain_pending_sends}
 use Rattle.upkeep.specs.Pending.{cleared_all}
 use Rattle.tables.specs.Drain.{cleared_each, gone_count}
@@ -83,13 +84,13 @@ unmark_drop (op ∷ gone) n l =
     ∙ ap (unmark_all gone) (sym (map_drop (unmark op.sequence_id.0) n l))
 
 unmark_ring : (gone : List OpSend) (is : List SequenceId) (ms : List ℕ) (ps : List Publish) (h n : ℕ)
-    → ring 256 (entries is (cleared_each gone is ms) ps) h n ≡ unmark_all gone (ring 256 (entries is ms ps) h n)
+    → ring pending_size (entries is (cleared_each gone is ms) ps) h n ≡ unmark_all gone (ring pending_size (entries is ms ps) h n)
 unmark_ring [] is ms ps h n = refl
 unmark_ring (op ∷ gone) is ms ps h n =
     let id : ℕ = op.sequence_id.0 in
     unmark_ring gone is (cleared_all id is ms) ps h n
     ∙ ap (unmark_all gone)
-    (ap (λ (l : List OpSend). ring 256 l h n) (unmarked_entries id is ms ps) ∙ sym (ring_map (unmark id) 256 (entries is ms ps) h n))
+    (ap (λ (l : List OpSend). ring pending_size l h n) (unmarked_entries id is ms ps) ∙ sym (ring_map (unmark id) pending_size (entries is ms ps) h n))
 
 length_each : (gone : List OpSend) (is : List SequenceId) (ms : List ℕ) → length (cleared_each gone is ms) ≡ length ms
 length_each [] is ms = refl
@@ -127,11 +128,11 @@ left_view s f None es p e k =
       settings = c.settings;
       ids = c.ids;
       counters = c.counters;
-      pending = ring_none 256 (slots_of (drained_state None es p s)) r.pending.head j;
+      pending = ring_none pending_size (slots_of (drained_state None es p s)) r.pending.head j;
       out = record {
-        frames = ring_none 1024 s.outbound r.outbound.head j;
+        frames = ring_none outbound_size s.outbound r.outbound.head j;
         waiting = 0;
-        held = ring_none 512 s.held r.held.head j;
+        held = ring_none held_size s.held r.held.head j;
         batch = empty_outgoing.batch;
       };
     }
@@ -143,12 +144,12 @@ left_view s f (Some time) es p e k =
     let n : ℕ = r.pending.len in
     let gone : List OpSend = take p es in
     let slots : List OpSend = slots_of (drained_state due es p s) in
-    let len : length slots ≡ 256 =
-    length_entries 256 s.pending_ids (cleared_each gone s.pending_ids s.pending_marks) s.pending f.ids
+    let len : length slots ≡ pending_size =
+    length_entries pending_size s.pending_ids (cleared_each gone s.pending_ids s.pending_marks) s.pending f.ids
     (length_each gone s.pending_ids s.pending_marks ∙ f.marks) f.pending in
-    let moved : ring 256 slots (slot 256 h (min p (min n 256))) (min n 256 - min p (min n 256)) ≡ drop p (ring 256 slots h n) =
-    ring_drops 256 (lit< tt) slots len no_entry h n p in
-    let all : ring 256 slots h n ≡ unmark_all gone (view s).pending = unmark_ring gone s.pending_ids s.pending_marks s.pending h n in
+    let moved : ring pending_size slots (slot pending_size h (min p (min n pending_size))) (min n pending_size - min p (min n pending_size)) ≡ drop p (ring pending_size slots h n) =
+    ring_drops pending_size (lit< tt) slots len no_entry h n p in
+    let all : ring pending_size slots h n ≡ unmark_all gone (view s).pending = unmark_ring gone s.pending_ids s.pending_marks s.pending h n in
     let same : drop p (unmark_all gone (view s).pending) ≡ unmark_all (gone_of due (view s)) (drop (count_of due (view s)) (view s).pending) =
     unmark_drop gone p (view s).pending ∙ (λ j. unmark_all (e j) (drop (k j) (view s).pending)) in
     λ j. with_pending ((moved ∙ ap (drop p) all ∙ same) j) (view s)

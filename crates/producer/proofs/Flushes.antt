@@ -9,6 +9,7 @@ use Rattle.types.specs.declared.error.ProducerError.TheVariants.{OutboundFull}
 use Rattle.queue.specs.Queue.{Queue, Outcome, done, refuse, with_out}
 use Rattle.queue.specs.Batch.{batch_record, with_batch, is_empty, flushed, flush_batch}
 use Rattle.queue.specs.Send.{flush_if}
+use Rattle.queue.specs.Sizes.{outbound_size}
 use Rattle.queue.specs.Told.{told, Kept}
 use Rattle.plans.specs.Delta.{counted_core}
 use Rattle.plans.specs.Batch.{flushed_core, flushed_if, flush_of, flush_planned}
@@ -53,7 +54,7 @@ module _ (s : ProducerState) (f : Full s) (t : ℕ) where
 
   pub plan_flushes : Flushes (flush_planned t s.core) (stored (flush_planned t s.core)) (flush_batch t (view s))
   unfolding flush_batch view
-  plan_flushes = go (is_empty s.core.batch) s.core.settings.switches.closed (ltb 1024 (s.core.rings.waiting + 1))
+  plan_flushes = go (is_empty s.core.batch) s.core.settings.switches.closed (ltb outbound_size (s.core.rings.waiting + 1))
     where
       of : Result ℕ ProducerError → FlushDelta
       of answer = flush_of answer t s.core

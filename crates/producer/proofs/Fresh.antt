@@ -4,6 +4,7 @@ use Rattle.laws.proofs.Rings.{ring_none}
 use Rattle.types.specs.Empty.{empty_batch}
 use Rattle.types.specs.declared.types.ProducerHandle.{ProducerHandle}
 use Rattle.queue.specs.Queue.{new_queue, new_settings, new_ids, new_counters}
+use Rattle.queue.specs.Sizes.{outbound_size, held_size, pending_size}
 use Rattle.plans.specs.State.{new_core}
 use Rattle.plans.specs.declared.state.Core.{Core}
 use Rattle.producer.specs.View.{view, entries}
@@ -20,11 +21,11 @@ fresh s handle e =
       settings = new_settings;
       ids = new_ids;
       counters = new_counters;
-      pending = ring_none 256 (entries s.pending_ids s.pending_marks s.pending) 0 j;
+      pending = ring_none pending_size (entries s.pending_ids s.pending_marks s.pending) 0 j;
       out = record {
-        frames = ring_none 1024 s.outbound 0 j;
+        frames = ring_none outbound_size s.outbound 0 j;
         waiting = 0;
-        held = ring_none 512 s.held 0 j;
+        held = ring_none held_size s.held 0 j;
         batch = empty_batch;
       };
     })

@@ -8,6 +8,7 @@ use Rattle.laws.specs.Ring.{ring}
 use Rattle.laws.proofs.Pushes.{ring_before}
 use Rattle.types.specs.declared.entry.OpSend.{OpSend}
 use Rattle.queue.specs.Queue.{Outgoing, Queue, with_out, with_pending}
+use Rattle.queue.specs.Sizes.{outbound_size, held_size, pending_size}
 use Rattle.queue.specs.Tables.{is_batched, frames_of, framed_of, frames_for, again, fronted, mark}
 use Rattle.rules.specs.Rings.{place_before, longer_before}
 use Rattle.types.specs.declared.frame.FrameRecord.{FrameRecord}
@@ -28,7 +29,7 @@ use Rattle.producer.proofs.Full.{Full, slots, full_core, full_frame, full_entry}
 abbrev fronted_one : OpSend → Outgoing → Outgoing
 fronted_one op o =
     record {
-      frames = pick (not (is_batched op.publish.replay)) (front 1024 (again op) o.frames) o.frames;
+      frames = pick (not (is_batched op.publish.replay)) (front outbound_size (again op) o.frames) o.frames;
       waiting = add_sat (frames_of op.publish.replay) o.waiting;
       held = o.held;
       batch = o.batch;
@@ -41,8 +42,8 @@ fronted_next op l o =
     λ j. record { frames = go (is_batched op.publish.replay) j; waiting = e j; held = o.held; batch = o.batch }
   where
     go : (b : Bool)
-        → pick (not b) (front 1024 (again op) (front_all 1024 (map again (framed_of l)) o.frames)) (front_all 1024 (map again (framed_of l)) o.frames)
-        ≡ front_all 1024 (map again (pick b (framed_of l) (op ∷ framed_of l))) o.frames
+        → pick (not b) (front outbound_size (again op) (front_all outbound_size (map again (framed_of l)) o.frames)) (front_all outbound_size (map again (framed_of l)) o.frames)
+        ≡ front_all outbound_size (map again (pick b (framed_of l) (op ∷ framed_of l))) o.frames
     go true = refl
     go false = refl
 
@@ -83,7 +84,7 @@ module _ (s : ProducerState) (f : Full s) where
       go : (b : Bool)
           → view (fronted_state (fronted_core (pick b None (Some (again op))) (frames_of op.publish.replay) s.core) s)
           ≡ with_out (record {
-            frames = pick (not b) (front 1024 (again op) (view s).out.frames) (view s).out.frames;
+            frames = pick (not b) (front outbound_size (again op) (view s).out.frames) (view s).out.frames;
             waiting = add_sat (frames_of op.publish.replay) (view s).out.waiting;
             held = (view s).out.held;
             batch = (view s).out.batch;
@@ -93,9 +94,9 @@ module _ (s : ProducerState) (f : Full s) where
           let k = s.core.rings in
           let r = k.outbound in
           let e =
-          ap (λ (l : List FrameRecord). ring 1024 l (longer_before 1024 r).head (longer_before 1024 r).len)
-          (stored_at (λ (y : FrameRecord). y) (place_before 1024 r) (again op) s.outbound)
-          ∙ ring_before 1024 (lit< tt) s.outbound f.outbound r.head r.len (again op) in
+          ap (λ (l : List FrameRecord). ring outbound_size l (longer_before outbound_size r).head (longer_before outbound_size r).len)
+          (stored_at (λ (y : FrameRecord). y) (place_before outbound_size r) (again op) s.outbound)
+          ∙ ring_before outbound_size (lit< tt) s.outbound f.outbound r.head r.len (again op) in
           λ j.
           with_out (record {
             frames = e j;
@@ -136,24 +137,24 @@ module _ (s₀ : ProducerState) (ops : List OpSend) where
 -- ── entries ──
 
 -- the last entry goes first
-front_last : (l : List OpSend) (op : OpSend) (p : List OpSend) → front_all 256 (map mark l) (front 256 (mark op) p) ≡ front_all 256 (map mark (l ++ op ∷ [])) p
+front_last : (l : List OpSend) (op : OpSend) (p : List OpSend) → front_all pending_size (map mark l) (front pending_size (mark op) p) ≡ front_all pending_size (map mark (l ++ op ∷ [])) p
 front_last [] op p = refl
-front_last (x ∷ l) op p = ap (front 256 (mark x)) (front_last l op p)
+front_last (x ∷ l) op p = ap (front pending_size (mark x)) (front_last l op p)
 
 abbrev pub entered : Pushed OpSend → ProducerState → ProducerState
 entered a s = store_entry a.put (store_core a.core s)
 
 module _ (s : ProducerState) (f : Full s) where
-  enters : (op : OpSend) → view (entered (fronted_entry op s.core) s) ≡ with_pending (front 256 (mark op) (view s).pending) (view s)
+  enters : (op : OpSend) → view (entered (fronted_entry op s.core) s) ≡ with_pending (front pending_size (mark op) (view s).pending) (view s)
   unfolding view
   enters op =
       let c = s.core in
       let k = c.rings in
-      let p = longer_before 256 k.pending in
+      let p = longer_before pending_size k.pending in
       let e =
-      ap (λ (l : List OpSend). ring 256 l p.head p.len)
-      (entries_put (place_before 256 k.pending) s.pending_ids s.pending_marks s.pending (mark op) refl)
-      ∙ ring_before 256 (lit< tt) (slots_of s) (slots s f) k.pending.head k.pending.len (mark op) in
+      ap (λ (l : List OpSend). ring pending_size l p.head p.len)
+      (entries_put (place_before pending_size k.pending) s.pending_ids s.pending_marks s.pending (mark op) refl)
+      ∙ ring_before pending_size (lit< tt) (slots_of s) (slots s f) k.pending.head k.pending.len (mark op) in
       λ j.
       record {
         handle = c.handle;
@@ -162,9 +163,9 @@ module _ (s : ProducerState) (f : Full s) where
         counters = c.counters;
         pending = e j;
         out = record {
-          frames = ring 1024 s.outbound k.outbound.head k.outbound.len;
+          frames = ring outbound_size s.outbound k.outbound.head k.outbound.len;
           waiting = k.waiting;
-          held = ring 512 s.held k.held.head k.held.len;
+          held = ring held_size s.held k.held.head k.held.len;
           batch = c.batch;
         };
       }
@@ -173,11 +174,11 @@ module _ (s : ProducerState) (f : Full s) where
 module _ (s₀ : ProducerState) (ops : List OpSend) where
   pub record Entering (s : ProducerState) (rest : List OpSend) : Type 0 where
     pub full : Full s
-    pub left : with_pending (front_all 256 (map mark rest) (view s).pending) (view s) ≡ with_pending (front_all 256 (map mark ops) (view s₀).pending) (view s₀)
+    pub left : with_pending (front_all pending_size (map mark rest) (view s).pending) (view s) ≡ with_pending (front_all pending_size (map mark ops) (view s₀).pending) (view s₀)
 
   pub entering_start : (rest : List OpSend) → Full s₀ → rest ≡ ops → Entering s₀ rest
   entering_start rest f e =
-      record { full = f; left = ap (λ (l : List OpSend). with_pending (front_all 256 (map mark l) (view s₀).pending) (view s₀)) e }
+      record { full = f; left = ap (λ (l : List OpSend). with_pending (front_all pending_size (map mark l) (view s₀).pending) (view s₀)) e }
 
   pub entering_step : (s : ProducerState) (rest l : List OpSend) (op : OpSend) → Entering s rest → rest ≡ l ++ op ∷ []
       → (a : Pushed OpSend) → a ≡ fronted_entry op s.core → Entering (entered a s) l
@@ -185,14 +186,14 @@ module _ (s₀ : ProducerState) (ops : List OpSend) where
       record {
         full = full_entry (store_core a.core s) (full_core s g.full a.core) a.put;
         left =
-            ap (λ (q : Queue). with_pending (front_all 256 (map mark l) q.pending) q)
+            ap (λ (q : Queue). with_pending (front_all pending_size (map mark l) q.pending) q)
             (ap (λ (q : Pushed OpSend). view (entered q s)) e ∙ enters s g.full op)
             ∙ ap (λ (p : List OpSend). with_pending p (view s)) (front_last l op (view s).pending)
-            ∙ ap (λ (m : List OpSend). with_pending (front_all 256 (map mark m) (view s).pending) (view s)) (sym r)
+            ∙ ap (λ (m : List OpSend). with_pending (front_all pending_size (map mark m) (view s).pending) (view s)) (sym r)
             ∙ g.left;
       }
 
   pub entering_end : (s : ProducerState) (rest : List OpSend) → Entering s rest → length rest ≡ 0
-      → view s ≡ with_pending (front_all 256 (map mark ops) (view s₀).pending) (view s₀)
+      → view s ≡ with_pending (front_all pending_size (map mark ops) (view s₀).pending) (view s₀)
   entering_end s [] g z = g.left
   entering_end s (x ∷ l) g z = absurd (omega arith)

@@ -16,17 +16,18 @@ use Rattle.producer.specs.contracts.state.ProducerState.{the_type}
 use Rattle.producer.proofs.state.ProducerState.TheLaws.{the_laws}
 use Rattle.producer.proofs.Entries.{length_entries}
 use Rattle.producer.proofs.Stores.{length_stored}
+use Rattle.queue.specs.Sizes.{outbound_size, held_size, pending_size}
 
 -- what owning a state tells
 abbrev pub Good : ProducerState → Type 0
 Good s = Is (row the_type) s (val the_type the_laws s ∷ [])
 
 pub record Full (s : ProducerState) : Type 0 where
-  pub outbound : length s.outbound ≡ 1024
-  pub held : length s.held ≡ 512
-  pub pending : length s.pending ≡ 256
-  pub ids : length s.pending_ids ≡ 256
-  pub marks : length s.pending_marks ≡ 256
+  pub outbound : length s.outbound ≡ outbound_size
+  pub held : length s.held ≡ held_size
+  pub pending : length s.pending ≡ pending_size
+  pub ids : length s.pending_ids ≡ pending_size
+  pub marks : length s.pending_marks ≡ pending_size
 
 pub full : (s : ProducerState) → Good s → Full s
 full s g =
@@ -38,8 +39,8 @@ full s g =
       marks = g.1.1.1.1.1.1.1.0.1.0.1;
     }
 
-pub slots : (s : ProducerState) → Full s → length (slots_of s) ≡ 256
-slots s f = length_entries 256 s.pending_ids s.pending_marks s.pending f.ids f.marks f.pending
+pub slots : (s : ProducerState) → Full s → length (slots_of s) ≡ pending_size
+slots s f = length_entries pending_size s.pending_ids s.pending_marks s.pending f.ids f.marks f.pending
 
 module _ (s : ProducerState) (f : Full s) where
   pub full_core : (c : Core) → Full (store_core c s)

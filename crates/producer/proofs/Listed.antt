@@ -3,6 +3,7 @@ use Rattle.std.proofs.Common.{◌≡◌, ℕ, ◌+◌, ◌<◌, ◌≤◌, min, 
 use Rattle.laws.specs.Ring.{ring}
 use Rattle.producer.specs.View.{view, slots_of}
 use Rattle.producer.specs.declared.state.ProducerState.{ProducerState}
+use Rattle.queue.specs.Sizes.{pending_size}
 
 -- one more element of l at its place of a
 pub take_copied : {A : Type 0} (l a : List A) (i : ℕ) (x : A) → i < length l → i < length a → get_or l i x ≡ x → take i a ≡ take i l
@@ -20,12 +21,12 @@ unfolding ring
 few_ring cap l h n = omega (arith, length-take (min n cap) (drop (h % cap) (l ++ l)))
 
 -- no list of a state's pending entries is longer than their ring
-pub few_pending : (s : ProducerState) → length (view s).pending ≤ min s.core.rings.pending.len 256
+pub few_pending : (s : ProducerState) → length (view s).pending ≤ min s.core.rings.pending.len pending_size
 unfolding view
-few_pending s = few_ring 256 (slots_of s) s.core.rings.pending.head s.core.rings.pending.len
+few_pending s = few_ring pending_size (slots_of s) s.core.rings.pending.head s.core.rings.pending.len
 
-pub all_pending : (s : ProducerState) → take 256 (view s).pending ≡ (view s).pending
-all_pending s = take_all 256 (view s).pending (omega (arith, few_pending s))
+pub all_pending : (s : ProducerState) → take pending_size (view s).pending ≡ (view s).pending
+all_pending s = take_all pending_size (view s).pending (omega (arith, few_pending s))
 
 -- the loop that lists l in an array: its elements up to i stand there
 pub record Listing {A : Type 0} (cap n : ℕ) (l all : List A) (i : ℕ) : Type 0 where

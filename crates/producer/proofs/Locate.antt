@@ -13,6 +13,7 @@ use Rattle.types.specs.declared.entry.OpSend.{OpSend}
 use Rattle.types.specs.declared.entry.Publish.{Publish}
 use Rattle.queue.specs.Queue.{with_pending}
 use Rattle.queue.specs.Settle.{unmark}
+use Rattle.queue.specs.Sizes.{pending_size}
 use Rattle.producer.specs.View.{view, slots_of, entry_of}
 use Rattle.producer.specs.Settle.{key_of, unmarked}
 use Rattle.producer.specs.declared.state.ProducerState.{ProducerState}
@@ -21,16 +22,16 @@ use Rattle.producer.proofs.Full.{Full, slots}
 
 -- the ids and marks that are searched are those of the pending entries
 pub keys_view : (s : ProducerState) → Full s
-    → map key_of (view s).pending ≡ ring 256 (keys s.pending_ids s.pending_marks) s.core.rings.pending.head s.core.rings.pending.len
+    → map key_of (view s).pending ≡ ring pending_size (keys s.pending_ids s.pending_marks) s.core.rings.pending.head s.core.rings.pending.len
 unfolding view
 keys_view s f =
-    ring_map key_of 256 (slots_of s) s.core.rings.pending.head s.core.rings.pending.len
-    ∙ ap (λ (l : List Key). ring 256 l s.core.rings.pending.head s.core.rings.pending.len)
+    ring_map key_of pending_size (slots_of s) s.core.rings.pending.head s.core.rings.pending.len
+    ∙ ap (λ (l : List Key). ring pending_size l s.core.rings.pending.head s.core.rings.pending.len)
     (keys_entries s.pending_ids s.pending_marks s.pending (f.ids ∙ sym f.pending))
 
-pub length_view : (s : ProducerState) → Full s → length (view s).pending ≡ min s.core.rings.pending.len 256
+pub length_view : (s : ProducerState) → Full s → length (view s).pending ≡ min s.core.rings.pending.len pending_size
 unfolding view
-length_view s f = length_ring 256 (lit< tt) (slots_of s) (slots s f) s.core.rings.pending.head s.core.rings.pending.len
+length_view s f = length_ring pending_size (lit< tt) (slots_of s) (slots s f) s.core.rings.pending.head s.core.rings.pending.len
 
 -- a place that was found lies among the entries
 pub located_below : (id : ℕ) (l : List Key) (i : ℕ) → located id l ≡ Some i → i < length l
@@ -43,11 +44,11 @@ located_below id l i e = go (place_of (wanted id false) l) e
     go None q = absurd (let z : ◌≡◌ {A = ℕ} 0 1 = cc in omega arith)
 
 -- what is put together from the arrays at a place is the entry there
-pub entry_there : (s : ProducerState) → Full s → (place at : ℕ) → at ≡ slot 256 s.core.rings.pending.head place → (d : Publish) (r : OpSend)
+pub entry_there : (s : ProducerState) → Full s → (place at : ℕ) → at ≡ slot pending_size s.core.rings.pending.head place → (d : Publish) (r : OpSend)
     → r ≡ entry_of (get_or s.pending_ids at no_id) (get_or s.pending_marks at 0) (get_or s.pending at d)
     → get_or (view s).pending place r ≡ r
 unfolding view
-entry_there s f place at q d r e = go (dec_lt place (min n 256))
+entry_there s f place at q d r e = go (dec_lt place (min n pending_size))
   where
     h : ℕ
     h = s.core.rings.pending.head
@@ -55,21 +56,21 @@ entry_there s f place at q d r e = go (dec_lt place (min n 256))
     n : ℕ
     n = s.core.rings.pending.len
 
-    below : at < 256
-    below = omega (arith, q, slot_below 256 h place (lit< tt))
+    below : at < pending_size
+    below = omega (arith, q, slot_below pending_size h place (lit< tt))
 
-    go : Dec (place < min n 256) → get_or (ring 256 (slots_of s) h n) place r ≡ r
+    go : Dec (place < min n pending_size) → get_or (ring pending_size (slots_of s) h n) place r ≡ r
     go (yes b) =
         let li : at < length s.pending_ids = omega (arith, below, f.ids) in
         let lm : at < length s.pending_marks = omega (arith, below, f.marks) in
         let lp : at < length s.pending = omega (arith, below, f.pending) in
-        ring_at 256 (lit< tt) (slots_of s) (slots s f) r h n place b
+        ring_at pending_size (lit< tt) (slots_of s) (slots s f) r h n place b
         ∙ ap (λ (k : ℕ). get_or (slots_of s) k r) (sym q)
         ∙ entries_at s.pending_ids s.pending_marks s.pending at d r li lm lp
         ∙ sym e
     go (no b) =
-        let l : length (ring 256 (slots_of s) h n) ≤ place = omega (arith, length_ring 256 (lit< tt) (slots_of s) (slots s f) h n) in
-        get_or-eq_default (ring 256 (slots_of s) h n) r l
+        let l : length (ring pending_size (slots_of s) h n) ≤ place = omega (arith, length_ring pending_size (lit< tt) (slots_of s) (slots s f) h n) in
+        get_or-eq_default (ring pending_size (slots_of s) h n) r l
 
 -- unmarking the slots unmarks the pending entries
 pub unmarked_view : (id : ℕ) (s : ProducerState) → view (unmarked id s) ≡ with_pending (map (unmark id) (view s).pending) (view s)
@@ -78,6 +79,6 @@ unmarked_view id s =
     let h = s.core.rings.pending.head in
     let n = s.core.rings.pending.len in
     let e =
-    ap (λ (l : List OpSend). ring 256 l h n) (unmarked_entries id s.pending_ids s.pending_marks s.pending)
-    ∙ sym (ring_map (unmark id) 256 (slots_of s) h n) in
+    ap (λ (l : List OpSend). ring pending_size l h n) (unmarked_entries id s.pending_ids s.pending_marks s.pending)
+    ∙ sym (ring_map (unmark id) pending_size (slots_of s) h n) in
     λ j. with_pending (e j) (view s)

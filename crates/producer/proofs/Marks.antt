@@ -7,6 +7,7 @@ use Rattle.types.specs.declared.entry.OpSend.{OpSend}
 use Rattle.types.specs.declared.entry.Publish.{Publish}
 use Rattle.types.specs.declared.types.SequenceId.{SequenceId}
 use Rattle.queue.specs.Queue.{with_pending}
+use Rattle.queue.specs.Sizes.{pending_size}
 use Rattle.queue.specs.Tables.{mark}
 use Rattle.producer.specs.View.{view, entries, slots_of}
 use Rattle.producer.specs.declared.state.ProducerState.{ProducerState}
@@ -39,13 +40,13 @@ with_marks ns s =
       pending_marks = ns;
     }
 
-pub marks_all : (s : ProducerState) → Full s → (ns : List ℕ) → length ns ≡ 256 → all_set ns ≡ true
+pub marks_all : (s : ProducerState) → Full s → (ns : List ℕ) → length ns ≡ pending_size → all_set ns ≡ true
     → view (with_marks ns s) ≡ with_pending (map mark (view s).pending) (view s)
 unfolding view
 marks_all s f ns len h =
     let head = s.core.rings.pending.head in
     let n = s.core.rings.pending.len in
-    let e : ring 256 (entries s.pending_ids ns s.pending) head n ≡ map mark (ring 256 (slots_of s) head n) =
-    ap (λ (l : List OpSend). ring 256 l head n) (marked_entries s.pending_ids s.pending_marks ns s.pending (len ∙ sym f.marks) h)
-    ∙ sym (ring_map mark 256 (slots_of s) head n) in
+    let e : ring pending_size (entries s.pending_ids ns s.pending) head n ≡ map mark (ring pending_size (slots_of s) head n) =
+    ap (λ (l : List OpSend). ring pending_size l head n) (marked_entries s.pending_ids s.pending_marks ns s.pending (len ∙ sym f.marks) h)
+    ∙ sym (ring_map mark pending_size (slots_of s) head n) in
     λ j. with_pending (e j) (view s)

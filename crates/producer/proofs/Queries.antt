@@ -10,6 +10,7 @@ use Rattle.laws.proofs.Slots.{slot_below}
 use Rattle.types.specs.declared.entry.OpSend.{OpSend}
 use Rattle.types.specs.declared.entry.Publish.{Publish}
 use Rattle.queue.specs.Ids.{delayed, elapsed, front_deadline, next_send_deadline, next_batch_deadline, batch_deadline_elapsed}
+use Rattle.queue.specs.Sizes.{pending_size}
 use Rattle.upkeep.specs.Deadline.{maybe_after, has_elapsed, unless_none}
 use Rattle.plans.specs.Ids.{send_deadline_of, batch_deadline_of}
 use Rattle.producer.specs.View.{view, slots_of}
@@ -46,7 +47,7 @@ unfolding batch_deadline_elapsed
 batch_elapsed_lem s now = has_elapsed_lem now (batch_deadline_of s.core) ∙ ap (elapsed now) (batch_deadline_lem s)
 
 -- the front entry's deadline
-pub send_deadline_lem : (s : ProducerState) → Full s → (at : ℕ) → at ≡ slot 256 s.core.rings.pending.head 0 → (d : Publish)
+pub send_deadline_lem : (s : ProducerState) → Full s → (at : ℕ) → at ≡ slot pending_size s.core.rings.pending.head 0 → (d : Publish)
     → (send_deadline_of s.core (get_or s.pending at d).enqueued_at) ≡ next_send_deadline (view s)
 unfolding next_send_deadline view
 send_deadline_lem s f at q d =
@@ -66,9 +67,9 @@ send_deadline_lem s f at q d =
     sent : ℕ
     sent = (get_or s.pending at d).enqueued_at
 
-    go : Dec (0 < n) → pick (eqb n 0) None (delayed timeout sent) ≡ front_deadline timeout (ring 256 (slots_of s) h n)
+    go : Dec (0 < n) → pick (eqb n 0) None (delayed timeout sent) ≡ front_deadline timeout (ring pending_size (slots_of s) h n)
     go (yes b) =
-        let below : at < 256 = omega (arith, q, slot_below 256 h 0 (lit< tt)) in
+        let below : at < pending_size = omega (arith, q, slot_below pending_size h 0 (lit< tt)) in
         let li : at < length s.pending_ids = omega (arith, below, f.ids) in
         let lm : at < length s.pending_marks = omega (arith, below, f.marks) in
         let lp : at < length s.pending = omega (arith, below, f.pending) in
@@ -76,9 +77,9 @@ send_deadline_lem s f at q d =
         ap (λ (k : ℕ). get_or (slots_of s) k no_entry) (sym q) ∙ entries_at s.pending_ids s.pending_marks s.pending at d no_entry li lm lp in
         pick_false None (delayed timeout sent) (ne_eqb n 0 (λ z. omega arith))
         ∙ sym
-        (ap (front_deadline timeout) (ring_pop 256 (lit< tt) (slots_of s) (slots s f) no_entry h n (omega arith))
+        (ap (front_deadline timeout) (ring_pop pending_size (lit< tt) (slots_of s) (slots s f) no_entry h n (omega arith))
         ∙ ap (λ (op : OpSend). delayed timeout op.publish.enqueued_at) entry)
     go (no b) =
         let z : n ≡ 0 = omega arith in
         pick_true None (delayed timeout sent) (eq-eqb n 0 z)
-        ∙ sym (ap (front_deadline timeout) (ap (ring 256 (slots_of s) h) z ∙ ring_none 256 (slots_of s) h))
+        ∙ sym (ap (front_deadline timeout) (ap (ring pending_size (slots_of s) h) z ∙ ring_none pending_size (slots_of s) h))

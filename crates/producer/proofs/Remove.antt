@@ -7,6 +7,7 @@ use Rattle.laws.proofs.Lists.{without_last}
 use Rattle.laws.proofs.Rings.{ring_drops}
 use Rattle.types.specs.declared.entry.OpSend.{OpSend}
 use Rattle.queue.specs.Queue.{with_pending}
+use Rattle.queue.specs.Sizes.{pending_size}
 use Rattle.rules.specs.Rings.{without_front, without_place}
 use Rattle.rules.specs.declared.rings.Ring.{Ring}
 use Rattle.plans.specs.Settle.{core_without}
@@ -24,7 +25,7 @@ without_past l i h = without_last l i (omega arith) ∙ take_all i l h
 module _ (s : ProducerState) (place : ℕ) where
   -- the pending entries of a state with these slots, once the entry at the place has left
   left : ProducerState → List OpSend
-  left t = let r = without_place 256 place s.core.rings.pending in ring 256 (slots_of t) r.head r.len
+  left t = let r = without_place pending_size place s.core.rings.pending in ring pending_size (slots_of t) r.head r.len
 
   removed : (t : ProducerState) → t ≡ with_slots t s → left t ≡ without (view s).pending place
       → view (with_core (core_without place s.core) t) ≡ with_pending (without (view s).pending place) (view s)
@@ -32,16 +33,16 @@ module _ (s : ProducerState) (place : ℕ) where
   removed t same e =
       ap (λ (u : ProducerState). view (with_core (core_without place s.core) u)) same ∙ (λ j. with_pending (e j) (view s))
 
-  pub removed_first : Full s → place ≡ 0 → place < min s.core.rings.pending.len 256
+  pub removed_first : Full s → place ≡ 0 → place < min s.core.rings.pending.len pending_size
       → view (with_core (core_without place s.core) s) ≡ with_pending (without (view s).pending place) (view s)
   unfolding view left
   removed_first f z b =
       let h = s.core.rings.pending.head in
       let n = s.core.rings.pending.len in
       removed s refl
-      (ap (λ (r : Ring 256). ring 256 (slots_of s) r.head r.len) (pick_true (without_front 256 1 s.core.rings.pending) (record { head = h; len = min n 256 - 1 }) (eq-eqb place 0 z))
-      ∙ ring_drops 256 (lit< tt) (slots_of s) (slots s f) no_entry h n 1
-      ∙ ap (λ (k : ℕ). without (ring 256 (slots_of s) h n) k) (sym z))
+      (ap (λ (r : Ring pending_size). ring pending_size (slots_of s) r.head r.len) (pick_true (without_front pending_size 1 s.core.rings.pending) (record { head = h; len = min n pending_size - 1 }) (eq-eqb place 0 z))
+      ∙ ring_drops pending_size (lit< tt) (slots_of s) (slots s f) no_entry h n 1
+      ∙ ap (λ (k : ℕ). without (ring pending_size (slots_of s) h n) k) (sym z))
 
   pub removed_later : (t : ProducerState) → (place ≡ 0 → ⊥) → GapClosed place s t
       → view (with_core (core_without place s.core) t) ≡ with_pending (without (view s).pending place) (view s)
@@ -50,9 +51,9 @@ module _ (s : ProducerState) (place : ℕ) where
       let h = s.core.rings.pending.head in
       let n = s.core.rings.pending.len in
       removed t g.same
-      (ap (λ (r : Ring 256). ring 256 (slots_of t) r.head r.len) (pick_false (without_front 256 1 s.core.rings.pending) (record { head = h; len = min n 256 - 1 }) (ne_eqb place 0 ne)) ∙ g.moved)
+      (ap (λ (r : Ring pending_size). ring pending_size (slots_of t) r.head r.len) (pick_false (without_front pending_size 1 s.core.rings.pending) (record { head = h; len = min n pending_size - 1 }) (ne_eqb place 0 ne)) ∙ g.moved)
 
-  pub removed_none : min s.core.rings.pending.len 256 ≤ place → view s ≡ with_pending (without (view s).pending place) (view s)
+  pub removed_none : min s.core.rings.pending.len pending_size ≤ place → view s ≡ with_pending (without (view s).pending place) (view s)
   unfolding view
   removed_none b =
       ap (λ (l : List OpSend). with_pending l (view s)) (sym (without_past (view s).pending place (omega (arith, few_pending s))))

@@ -14,6 +14,7 @@ use Rattle.types.specs.declared.entry.OpSend.{OpSend}
 use Rattle.types.specs.declared.error.ProducerError.{ProducerError}
 use Rattle.types.specs.declared.error.ProducerError.TheVariants.{OutboundFull, PendingFull, MalformedEntry}
 use Rattle.queue.specs.Queue.{Queue, Outcome, done, refuse, with_out, with_pending}
+use Rattle.queue.specs.Sizes.{outbound_size, pending_size}
 use Rattle.queue.specs.Tables.{all_well_formed, frames_for, fronted, mark, unborne, replay_pending_outbound, replay_snapshots}
 use Rattle.queue.specs.Told.{told_error}
 use Rattle.tables.specs.Unborne.{free}
@@ -32,12 +33,12 @@ ends_as (Ok x) q after = (after, done x)
 ends_as (Err e) q after = (q, told_error e)
 
 -- a sum that would stop is over 1,024 where the sum is
-sat_test : (w f : ℕ) → ltb 1024 (w + add_sat 0 f) ≡ ltb 1024 (w + f)
-sat_test w f = go (dec_lt 1024 (w + f))
+sat_test : (w f : ℕ) → ltb outbound_size (w + add_sat 0 f) ≡ ltb outbound_size (w + f)
+sat_test w f = go (dec_lt outbound_size (w + f))
   where
-    go : Dec (1024 < w + f) → ltb 1024 (w + add_sat 0 f) ≡ ltb 1024 (w + f)
-    go (yes p) = lt-ltb 1024 (w + add_sat 0 f) (omega arith) ∙ sym (lt-ltb 1024 (w + f) p)
-    go (no p) = let e : add_sat 0 f ≡ f = omega arith in ap (λ (x : ℕ). ltb 1024 (w + x)) e
+    go : Dec (outbound_size < w + f) → ltb outbound_size (w + add_sat 0 f) ≡ ltb outbound_size (w + f)
+    go (yes p) = lt-ltb outbound_size (w + add_sat 0 f) (omega arith) ∙ sym (lt-ltb outbound_size (w + f) p)
+    go (no p) = let e : add_sat 0 f ≡ f = omega arith in ap (λ (x : ℕ). ltb outbound_size (w + x)) e
 
 -- ── `replay_pending_outbound` ──
 
@@ -47,17 +48,17 @@ module _ (s : ProducerState) where
 
   -- the entries chosen are those of the definition
   pub found : (ids : List SequenceId) (ops l : List OpSend) → ids ≡ map frame_id (view s).out.frames → ops ≡ (view s).pending
-      → l ≡ keeping (free ids) (take 256 ops) → l ≡ left
+      → l ≡ keeping (free ids) (take pending_size ops) → l ≡ left
   found ids ops l named listed e =
       e
-      ∙ (λ j. keeping (free (named j)) (take 256 (listed j)))
+      ∙ (λ j. keeping (free (named j)) (take pending_size (listed j)))
       ∙ ap (keeping (free (map frame_id (view s).out.frames))) (all_pending s)
       ∙ unborne_ids (view s).out.frames (view s).pending
 
   pub counts : ends_as (replay_count (add_sat 0 (frames_for left)) s.core) (view s) (with_out (fronted left (view s).out) (view s))
       ≡ replay_pending_outbound (view s)
   unfolding view replay_pending_outbound
-  counts = go (dec_lt 1024 (w + f))
+  counts = go (dec_lt outbound_size (w + f))
     where
       w : ℕ
       w = s.core.rings.waiting
@@ -68,13 +69,13 @@ module _ (s : ProducerState) where
       after : Queue
       after = with_out (fronted left (view s).out) (view s)
 
-      go : Dec (1024 < w + f)
-          → ends_as (pick (ltb 1024 (w + add_sat 0 f)) (Err OutboundFull) (Ok (add_sat 0 f))) (view s) after
-          ≡ pick (ltb 1024 (w + f)) (refuse 4 (view s)) (after, done f)
-      go (yes p) = rw (lt-ltb 1024 (w + add_sat 0 f) (omega arith), lt-ltb 1024 (w + f) p) refl
+      go : Dec (outbound_size < w + f)
+          → ends_as (pick (ltb outbound_size (w + add_sat 0 f)) (Err OutboundFull) (Ok (add_sat 0 f))) (view s) after
+          ≡ pick (ltb outbound_size (w + f)) (refuse 4 (view s)) (after, done f)
+      go (yes p) = rw (lt-ltb outbound_size (w + add_sat 0 f) (omega arith), lt-ltb outbound_size (w + f) p) refl
       go (no p) =
           let e : add_sat 0 f ≡ f = omega arith in
-          ap (λ (x : ℕ). ends_as (pick (ltb 1024 (w + x)) (Err OutboundFull) (Ok x)) (view s) after) e ∙ last (ltb 1024 (w + f))
+          ap (λ (x : ℕ). ends_as (pick (ltb outbound_size (w + x)) (Err OutboundFull) (Ok x)) (view s) after) e ∙ last (ltb outbound_size (w + f))
         where
           last : (b : Bool) → ends_as (pick b (Err OutboundFull) (Ok f)) (view s) after ≡ pick b (refuse 4 (view s)) (after, done f)
           last true = refl
@@ -85,31 +86,31 @@ module _ (s : ProducerState) where
 module _ (s : ProducerState) where
   -- entries and frames at the front, one after the other
   abbrev pub replayed : List OpSend → Queue
-  replayed l = with_out (fronted l (view s).out) (with_pending (front_all 256 (map mark l) (map mark (view s).pending)) (view s))
+  replayed l = with_out (fronted l (view s).out) (with_pending (front_all pending_size (map mark l) (map mark (view s).pending)) (view s))
 
   abbrev marked : List OpSend → Queue
   marked l = with_out (fronted l (view s).out) (with_pending (map mark (l ++ (view s).pending)) (view s))
 
   -- where there is room for them
-  in_room : (l : List OpSend) → length l + length (view s).pending ≤ 256 → replayed l ≡ marked l
+  in_room : (l : List OpSend) → length l + length (view s).pending ≤ pending_size → replayed l ≡ marked l
   in_room l b =
       let x : length (map mark l) ≡ length l = length-map l mark in
       let y : length (map mark (view s).pending) ≡ length (view s).pending = length-map (view s).pending mark in
       ap (λ (p : List OpSend). with_out (fronted l (view s).out) (with_pending p (view s)))
-      (front_room 256 (map mark l) (map mark (view s).pending) (omega arith) ∙ sym (map_append mark l (view s).pending))
+      (front_room pending_size (map mark l) (map mark (view s).pending) (omega arith) ∙ sym (map_append mark l (view s).pending))
 
   abbrev chosen : Bool → Bool → Bool → Result (Unit {0}) ProducerError
   chosen b1 b2 b3 = pick b1 (Err MalformedEntry) (pick b2 (Err PendingFull) (pick b3 (Err OutboundFull) (Ok tt)))
 
   -- where nothing refuses, few frames wait
   pub waiting_few : (b : Bool) (n k : ℕ) → Ok tt ≡ replay_answer b n k s.core → s.core.rings.waiting < 2 ^ 64
-  waiting_few b n k is = go (not b) (ltb 256 (n + min s.core.rings.pending.len 256)) (ltb 1024 (s.core.rings.waiting + k)) refl is
+  waiting_few b n k is = go (not b) (ltb pending_size (n + min s.core.rings.pending.len pending_size)) (ltb outbound_size (s.core.rings.waiting + k)) refl is
     where
-      go : (b1 b2 b3 : Bool) → ltb 1024 (s.core.rings.waiting + k) ≡ b3 → Ok tt ≡ chosen b1 b2 b3 → s.core.rings.waiting < 2 ^ 64
+      go : (b1 b2 b3 : Bool) → ltb outbound_size (s.core.rings.waiting + k) ≡ b3 → Ok tt ≡ chosen b1 b2 b3 → s.core.rings.waiting < 2 ^ 64
       go true b2 b3 e h = differ (cc)
       go false true b3 e h = differ (cc)
       go false false true e h = differ (cc)
-      go false false false e h = omega (arith, ltb-false 1024 (s.core.rings.waiting + k) e)
+      go false false false e h = omega (arith, ltb-false outbound_size (s.core.rings.waiting + k) e)
 
   -- what is stored matters only where neither 12 nor 7 refuses
   by_tests : (b1 b2 b3 : Bool) (a a' : Queue) → (b2 ≡ false → a ≡ a')
@@ -124,7 +125,7 @@ module _ (s : ProducerState) where
   unfolding view replay_snapshots
   replays f l =
       (λ j.
-      ends_as (chosen (not (all_well_formed l)) (ltb 256 (length l + sym (pending_length s f) j)) (sat_test s.core.rings.waiting (frames_for l) j)) (view s)
+      ends_as (chosen (not (all_well_formed l)) (ltb pending_size (length l + sym (pending_length s f) j)) (sat_test s.core.rings.waiting (frames_for l) j)) (view s)
       (replayed l))
-      ∙ by_tests (not (all_well_formed l)) (ltb 256 (length l + length (view s).pending)) (ltb 1024 (s.core.rings.waiting + frames_for l)) (replayed l)
-      (marked l) (λ e. in_room l (ltb-false 256 (length l + length (view s).pending) e))
+      ∙ by_tests (not (all_well_formed l)) (ltb pending_size (length l + length (view s).pending)) (ltb outbound_size (s.core.rings.waiting + frames_for l)) (replayed l)
+      (marked l) (λ e. in_room l (ltb-false pending_size (length l + length (view s).pending) e))

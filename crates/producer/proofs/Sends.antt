@@ -14,6 +14,7 @@ use Rattle.types.specs.declared.way.Way.TheVariants.{TooLarge, Join, Single, Chu
 use Rattle.queue.specs.Queue.{Queue, Outcome, with_out}
 use Rattle.queue.specs.Batch.{at_least_one, grown, is_full, may_join, single_of}
 use Rattle.queue.specs.Send as send
+use Rattle.queue.specs.Sizes.{outbound_size, held_size, pending_size}
 use Rattle.queue.specs.Told.{told_send}
 use Rattle.plans.specs.Delta.{counted_core, accepted}
 use Rattle.plans.specs.Batch.{flushed_if}
@@ -189,10 +190,10 @@ module _ (s : ProducerState) (f : Full s) (a : Sending) where
       pick k.settings.switches.closed (send.no 1)
       (pick (not (send.message_in n m m.payload)) (send.no 2)
       (pick (not (send.within_bounds m a.reservation.bytes)) (send.no 3)
-      (pick (ltb 1024 (k.rings.waiting + send.pushes w)) (send.no 4)
-      (pick (send.joins w && leb 512 held_count) (send.no 5)
+      (pick (ltb outbound_size (k.rings.waiting + send.pushes w)) (send.no 4)
+      (pick (send.joins w && leb held_size held_count) (send.no 5)
       (pick (send.is_too_large w) (send.go w)
-      (pick (leb 256 pendingCount) (send.no 7)
+      (pick (leb pending_size pendingCount) (send.no 7)
       (send.go w)))))))
 
   chain : (b1 b2 b3 b4 b5 b6 b7 : Bool) (w : Way) → Follows w
@@ -239,14 +240,14 @@ module _ (s : ProducerState) (f : Full s) (a : Sending) where
       let q = view s in
       subst (λ (p : send.Plan). Sends d (send.carried_out (brought a) q p)) (plan_is n)
       (subst (λ (l : ℕ). Sends d (send.carried_out (brought a) q (plan_by n l (length q.pending)))) (sym (held_length s f))
-      (subst (λ (l : ℕ). Sends d (send.carried_out (brought a) q (plan_by n (min k.rings.held.len 512) l))) (sym (pending_length s f))
+      (subst (λ (l : ℕ). Sends d (send.carried_out (brought a) q (plan_by n (min k.rings.held.len held_size) l))) (sym (pending_length s f))
       (chain
       k.settings.switches.closed
       (not (send.message_in n m m.payload))
       (not (send.within_bounds m a.reservation.bytes))
-      (ltb 1024 (k.rings.waiting + send.pushes w))
-      (send.joins w && leb 512 (min k.rings.held.len 512))
+      (ltb outbound_size (k.rings.waiting + send.pushes w))
+      (send.joins w && leb held_size (min k.rings.held.len held_size))
       (send.is_too_large w)
-      (leb 256 (min k.rings.pending.len 256))
+      (leb pending_size (min k.rings.pending.len pending_size))
       w
       takes)))

@@ -12,6 +12,7 @@ use Rattle.types.specs.declared.settings.Setting.TheVariants.{BrokerReady}
 use Rattle.queue.specs.Queue.{Queue, Outcome, refused, done, empty_outgoing}
 use Rattle.queue.specs.Settings.{changed}
 use Rattle.queue.specs.Settle.{Handed, handed, table_after}
+use Rattle.queue.specs.Sizes.{outbound_size, held_size, pending_size}
 use Rattle.queue.specs.Tables.{batched_of, framed_of, failed, snapshot_pending_sends}
 use Rattle.tables.specs.Scalars.{core_snapshot}
 use Rattle.tables.specs.Picked.{kind_of, Lists}
@@ -61,11 +62,11 @@ left_view s n e =
       settings = changed (BrokerReady false) c.settings;
       ids = c.ids;
       counters = failed (e j) c.counters;
-      pending = ring_none 256 (slots_of s) r.pending.head j;
+      pending = ring_none pending_size (slots_of s) r.pending.head j;
       out = record {
-        frames = ring_none 1024 s.outbound r.outbound.head j;
+        frames = ring_none outbound_size s.outbound r.outbound.head j;
         waiting = 0;
-        held = ring_none 512 s.held r.held.head j;
+        held = ring_none held_size s.held r.held.head j;
         batch = empty_outgoing.batch;
       };
     }
@@ -115,7 +116,7 @@ module _ (s : ProducerState) (ds rs : List OpSend) where
   Planned = snapshot_of (length (batched_of (view s).pending)) (length (framed_of (view s).pending)) (length ds) (length rs)
 
   -- the counts of the two lists are those that are planned with
-  pub planned_by : (x y : Listed OpSend 256) → Lists (kind_of true (view s).pending) x → Lists (kind_of false (view s).pending) y
+  pub planned_by : (x y : Listed OpSend pending_size) → Lists (kind_of true (view s).pending) x → Lists (kind_of false (view s).pending) y
       → Planned ≡ snapshot_of x.len y.len (length ds) (length rs)
   planned_by x y p q = sym (λ j. snapshot_of (p.many j) (q.many j) (length ds) (length rs))
 

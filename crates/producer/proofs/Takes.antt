@@ -26,6 +26,7 @@ use Rattle.wire.specs.Length.{stopped, batch_length}
 use Rattle.wire.proofs.Lengths.{batch_length_lem}
 use Rattle.queue.specs.Queue.{Queue, Answer, refuse, with_out, done}
 use Rattle.queue.specs.Frame.{Frame, first_frame, frame_in, borne_in, chunk_part, all_in}
+use Rattle.queue.specs.Sizes.{outbound_size, held_size}
 use Rattle.queue.specs.Take.{with_kind, next_chunk, rest_of, holds, after_take, take_from, next_outbound_frame, written}
 use Rattle.queue.specs.Told.{Kept}
 use Rattle.frames.specs.Span.{name_in, borne, span_of, is_batch, held_count}
@@ -49,20 +50,20 @@ use Rattle.types.specs.declared.error.ProducerError.{ProducerError}
 -- ── numbers and lists ──
 
 -- a count that may be larger than what is there
-ring_takes : {A : Type 0} (a : List A) → length a ≡ 512 → (h n m : ℕ) → ring 512 a h (min m (min n 512)) ≡ take m (ring 512 a h n)
-ring_takes {A} a len h n m = ring_take 512 (lit< tt) a len h (min m (min n 512)) n (omega arith) ∙ go (dec_lt m (min n 512))
+ring_takes : {A : Type 0} (a : List A) → length a ≡ held_size → (h n m : ℕ) → ring held_size a h (min m (min n held_size)) ≡ take m (ring held_size a h n)
+ring_takes {A} a len h n m = ring_take held_size (lit< tt) a len h (min m (min n held_size)) n (omega arith) ∙ go (dec_lt m (min n held_size))
   where
-    e : length (ring 512 a h n) ≡ min n 512
-    e = length_ring 512 (lit< tt) a len h n
+    e : length (ring held_size a h n) ≡ min n held_size
+    e = length_ring held_size (lit< tt) a len h n
 
-    go : Dec (m < min n 512) → take (min m (min n 512)) (ring 512 a h n) ≡ take m (ring 512 a h n)
-    go (yes p) = let k : min m (min n 512) ≡ m = omega arith in ap (λ (j : ℕ). take j (ring 512 a h n)) k
+    go : Dec (m < min n held_size) → take (min m (min n held_size)) (ring held_size a h n) ≡ take m (ring held_size a h n)
+    go (yes p) = let k : min m (min n held_size) ≡ m = omega arith in ap (λ (j : ℕ). take j (ring held_size a h n)) k
     go (no p) =
-        let x : length (ring 512 a h n) ≤ min m (min n 512) = omega (arith, e) in
-        let y : length (ring 512 a h n) ≤ m = omega (arith, e) in
-        take_all (min m (min n 512)) (ring 512 a h n) x ∙ sym (take_all m (ring 512 a h n) y)
+        let x : length (ring held_size a h n) ≤ min m (min n held_size) = omega (arith, e) in
+        let y : length (ring held_size a h n) ≤ m = omega (arith, e) in
+        take_all (min m (min n held_size)) (ring held_size a h n) x ∙ sym (take_all m (ring held_size a h n) y)
 
-count_is : (k : FrameKind) (n : ℕ) → held_count k n ≡ min (holds k) (min n 512)
+count_is : (k : FrameKind) (n : ℕ) → held_count k n ≡ min (holds k) (min n held_size)
 count_is Single n = omega arith
 count_is (Batch b) n = refl
 count_is (Chunked c) n = omega arith
@@ -138,59 +139,59 @@ some_message =
 -- ── the front record ──
 
 -- which stands at the first slot
-module _ (s : ProducerState) (f : Full s) (d : FrameRecord) (at : ℕ) (q : at ≡ slot 1024 s.core.rings.outbound.head 0) where
+module _ (s : ProducerState) (f : Full s) (d : FrameRecord) (at : ℕ) (q : at ≡ slot outbound_size s.core.rings.outbound.head 0) where
   abbrev pub front_of : FrameRecord
   front_of = get_or s.outbound at d
 
   abbrev behind : List FrameRecord
-  behind = ring 1024 s.outbound (slot 1024 s.core.rings.outbound.head 1) (min s.core.rings.outbound.len 1024 - 1)
+  behind = ring outbound_size s.outbound (slot outbound_size s.core.rings.outbound.head 1) (min s.core.rings.outbound.len outbound_size - 1)
 
   none_waiting : s.core.rings.outbound.len ≡ 0 → (view s).out.frames ≡ []
   unfolding view
-  none_waiting z = ap (ring 1024 s.outbound s.core.rings.outbound.head) z ∙ ring_none 1024 s.outbound s.core.rings.outbound.head
+  none_waiting z = ap (ring outbound_size s.outbound s.core.rings.outbound.head) z ∙ ring_none outbound_size s.outbound s.core.rings.outbound.head
 
   some_waiting : 0 < s.core.rings.outbound.len → (view s).out.frames ≡ front_of ∷ behind
   unfolding view
   some_waiting b =
-      ring_pop 1024 (lit< tt) s.outbound f.outbound d s.core.rings.outbound.head s.core.rings.outbound.len (omega arith)
+      ring_pop outbound_size (lit< tt) s.outbound f.outbound d s.core.rings.outbound.head s.core.rings.outbound.len (omega arith)
       ∙ ap (λ (k : ℕ). get_or s.outbound k d ∷ behind) (sym q)
 
   -- what a store in its slot leaves, with the head where it was and moved on
   module _ (b : 0 < s.core.rings.outbound.len) (x : FrameRecord) where
-    stored : ring 1024 (set s.outbound at x) s.core.rings.outbound.head s.core.rings.outbound.len ≡ x ∷ behind
+    stored : ring outbound_size (set s.outbound at x) s.core.rings.outbound.head s.core.rings.outbound.len ≡ x ∷ behind
     unfolding view
     stored =
         let h = s.core.rings.outbound.head in
         let n = s.core.rings.outbound.len in
-        ap (λ (k : ℕ). ring 1024 (set s.outbound k x) h n) q
-        ∙ ring_set 1024 (lit< tt) s.outbound f.outbound h n 0 x (omega arith)
+        ap (λ (k : ℕ). ring outbound_size (set s.outbound k x) h n) q
+        ∙ ring_set outbound_size (lit< tt) s.outbound f.outbound h n 0 x (omega arith)
         ∙ ap (λ (l : List FrameRecord). set l 0 x) (some_waiting b)
 
-    gone : ring 1024 (set s.outbound at x) (without_front 1024 1 s.core.rings.outbound).head
-        (without_front 1024 1 s.core.rings.outbound).len
+    gone : ring outbound_size (set s.outbound at x) (without_front outbound_size 1 s.core.rings.outbound).head
+        (without_front outbound_size 1 s.core.rings.outbound).len
         ≡ behind
     gone =
         let h = s.core.rings.outbound.head in
         let n = s.core.rings.outbound.len in
         let slots = set s.outbound at x in
-        let one : min 1 (min n 1024) ≡ 1 = omega arith in
-        ap (λ (k : ℕ). ring 1024 slots (slot 1024 h k) (min n 1024 - k)) one
-        ∙ ring_drop 1024 (lit< tt) slots (simp length-set f.outbound) x h n 1 (omega arith)
+        let one : min 1 (min n outbound_size) ≡ 1 = omega arith in
+        ap (λ (k : ℕ). ring outbound_size slots (slot outbound_size h k) (min n outbound_size - k)) one
+        ∙ ring_drop outbound_size (lit< tt) slots (simp length-set f.outbound) x h n 1 (omega arith)
         ∙ ap (drop 1) stored
 
   rest_is : 0 < s.core.rings.outbound.len → (r : FrameRecord) (k : FrameKind)
-      → ring 1024 (set s.outbound at (record_after r k))
-      (pick (stays_of k) s.core.rings.outbound (without_front 1024 1 s.core.rings.outbound)).head
-      (pick (stays_of k) s.core.rings.outbound (without_front 1024 1 s.core.rings.outbound)).len
+      → ring outbound_size (set s.outbound at (record_after r k))
+      (pick (stays_of k) s.core.rings.outbound (without_front outbound_size 1 s.core.rings.outbound)).head
+      (pick (stays_of k) s.core.rings.outbound (without_front outbound_size 1 s.core.rings.outbound)).len
       ≡ rest_of r k behind
   rest_is b r Single = gone b r
   rest_is b r (Batch y) = gone b r
   rest_is b r (Chunked c) = go (has_next c)
     where
       go : (t : Bool)
-          → ring 1024 (set s.outbound at (pick t (with_kind (Chunked (next_chunk c)) r) r))
-          (pick t s.core.rings.outbound (without_front 1024 1 s.core.rings.outbound)).head
-          (pick t s.core.rings.outbound (without_front 1024 1 s.core.rings.outbound)).len
+          → ring outbound_size (set s.outbound at (pick t (with_kind (Chunked (next_chunk c)) r) r))
+          (pick t s.core.rings.outbound (without_front outbound_size 1 s.core.rings.outbound)).head
+          (pick t s.core.rings.outbound (without_front outbound_size 1 s.core.rings.outbound)).len
           ≡ pick t (with_kind (Chunked (next_chunk c)) r ∷ behind) behind
       go true = stored b (with_kind (Chunked (next_chunk c)) r)
       go false = gone b r
@@ -198,23 +199,23 @@ module _ (s : ProducerState) (f : Full s) (d : FrameRecord) (at : ℕ) (q : at �
   -- ── the held messages ──
 
   abbrev held_list : List SingleMessage
-  held_list = ring 512 s.held s.core.rings.held.head s.core.rings.held.len
+  held_list = ring held_size s.held s.core.rings.held.head s.core.rings.held.len
 
   abbrev pub first_of : FrameKind → List SingleMessage
-  first_of k = ring 512 s.held s.core.rings.held.head (held_count k s.core.rings.held.len)
+  first_of k = ring held_size s.held s.core.rings.held.head (held_count k s.core.rings.held.len)
 
   first_is : (b : BatchFrame) → first_of (Batch b) ≡ take b.num_messages held_list
   first_is b = ring_takes s.held f.held s.core.rings.held.head s.core.rings.held.len b.num_messages
 
   dropped_is : SingleMessage → (k : FrameKind)
-      → ring 512 s.held (without_front 512 (held_count k s.core.rings.held.len) s.core.rings.held).head
-      (without_front 512 (held_count k s.core.rings.held.len) s.core.rings.held).len
+      → ring held_size s.held (without_front held_size (held_count k s.core.rings.held.len) s.core.rings.held).head
+      (without_front held_size (held_count k s.core.rings.held.len) s.core.rings.held).len
       ≡ drop (holds k) held_list
   dropped_is m k =
       let h = s.core.rings.held.head in
       let n = s.core.rings.held.len in
-      let gone : min (held_count k n) (min n 512) ≡ min (holds k) (min n 512) = omega (arith, count_is k n) in
-      ap (λ (j : ℕ). ring 512 s.held (slot 512 h j) (min n 512 - j)) gone ∙ ring_drops 512 (lit< tt) s.held f.held m h n (holds k)
+      let gone : min (held_count k n) (min n held_size) ≡ min (holds k) (min n held_size) = omega (arith, count_is k n) in
+      ap (λ (j : ℕ). ring held_size s.held (slot held_size h j) (min n held_size - j)) gone ∙ ring_drops held_size (lit< tt) s.held f.held m h n (holds k)
 
   -- the state once the frame is gone
   abbrev pub state_after : FrameRecord → ProducerState
@@ -458,7 +459,7 @@ module _ (s : ProducerState) (f : Full s) (d : FrameRecord) (at : ℕ) (q : at �
     -- ── from what the code has worked out ──
 
     abbrev held_first : ℕ → List SingleMessage
-    held_first count = ring 512 s.held s.core.rings.held.head count
+    held_first count = ring held_size s.held s.core.rings.held.head count
 
     module _ (got : Option Span) (count : ℕ) (ce : count ≡ held_count kind s.core.rings.held.len) (se : got ≡ span_of (length store) front_of kind (held_first count))
         (plan : Result TakePlan ProducerError) (pe : plan ≡ take_planned s.core front_of got count (length before)) where

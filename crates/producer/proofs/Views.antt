@@ -13,6 +13,7 @@ use Rattle.queue.specs.Queue.{Outgoing, with_out}
 use Rattle.queue.specs.Batch.{push}
 use Rattle.queue.specs.Ids.{assigned}
 use Rattle.queue.specs.Send.{accept}
+use Rattle.queue.specs.Sizes.{outbound_size, held_size, pending_size}
 use Rattle.rules.specs.Rings.{place_behind, longer_behind}
 use Rattle.plans.specs.Delta.{pushed, accepted, held}
 use Rattle.producer.specs.View.{view, entry_of, entries}
@@ -22,26 +23,26 @@ use Rattle.producer.proofs.Entries.{entries_put, length_entries}
 use Rattle.producer.proofs.Stores.{stored_at}
 use Rattle.producer.proofs.Full.{Full}
 
-abbrev p1024 : 0 < 1024
+abbrev p1024 : 0 < outbound_size
 p1024 = lit< tt
 
-abbrev p512 : 0 < 512
+abbrev p512 : 0 < held_size
 p512 = lit< tt
 
-abbrev p256 : 0 < 256
+abbrev p256 : 0 < pending_size
 p256 = lit< tt
 
 -- a message more among those held
 abbrev pub holding : SingleMessage → Outgoing → Outgoing
-holding m o = record { frames = o.frames; waiting = o.waiting; held = onto 512 o.held m; batch = o.batch }
+holding m o = record { frames = o.frames; waiting = o.waiting; held = onto held_size o.held m; batch = o.batch }
 
 module _ (s : ProducerState) (f : Full s) where
   all : List OpSend
   all = entries s.pending_ids s.pending_marks s.pending
 
-  all_length : length all ≡ 256
+  all_length : length all ≡ pending_size
   unfolding all
-  all_length = length_entries 256 s.pending_ids s.pending_marks s.pending f.ids f.marks f.pending
+  all_length = length_entries pending_size s.pending_ids s.pending_marks s.pending f.ids f.marks f.pending
 
   pub pushes : (r : FrameRecord) (n : ℕ)
       → view (store_frame (pushed r n s.core).put (store_core (pushed r n s.core).core s)) ≡ with_out (push r n (view s).out) (view s)
@@ -50,20 +51,20 @@ module _ (s : ProducerState) (f : Full s) where
       let c = s.core in
       let k = c.rings in
       let e =
-      ap (λ (l : List FrameRecord). ring 1024 l k.outbound.head (longer_behind 1024 k.outbound).len)
-      (stored_at (λ (x : FrameRecord). x) (place_behind 1024 k.outbound) r s.outbound)
-      ∙ ring_onto 1024 p1024 s.outbound f.outbound k.outbound.head k.outbound.len r in
+      ap (λ (l : List FrameRecord). ring outbound_size l k.outbound.head (longer_behind outbound_size k.outbound).len)
+      (stored_at (λ (x : FrameRecord). x) (place_behind outbound_size k.outbound) r s.outbound)
+      ∙ ring_onto outbound_size p1024 s.outbound f.outbound k.outbound.head k.outbound.len r in
       λ j.
       record {
         handle = c.handle;
         settings = c.settings;
         ids = c.ids;
         counters = c.counters;
-        pending = ring 256 (entries s.pending_ids s.pending_marks s.pending) k.pending.head k.pending.len;
+        pending = ring pending_size (entries s.pending_ids s.pending_marks s.pending) k.pending.head k.pending.len;
         out = record {
           frames = e j;
           waiting = add_sat k.waiting n;
-          held = ring 512 s.held k.held.head k.held.len;
+          held = ring held_size s.held k.held.head k.held.len;
           batch = c.batch;
         };
       }
@@ -75,18 +76,18 @@ module _ (s : ProducerState) (f : Full s) where
       let c = s.core in
       let k = c.rings in
       let e =
-      ap (λ (l : List SingleMessage). ring 512 l k.held.head (longer_behind 512 k.held).len)
-      (stored_at (λ (x : SingleMessage). x) (place_behind 512 k.held) m s.held)
-      ∙ ring_onto 512 p512 s.held f.held k.held.head k.held.len m in
+      ap (λ (l : List SingleMessage). ring held_size l k.held.head (longer_behind held_size k.held).len)
+      (stored_at (λ (x : SingleMessage). x) (place_behind held_size k.held) m s.held)
+      ∙ ring_onto held_size p512 s.held f.held k.held.head k.held.len m in
       λ j.
       record {
         handle = c.handle;
         settings = c.settings;
         ids = c.ids;
         counters = c.counters;
-        pending = ring 256 (entries s.pending_ids s.pending_marks s.pending) k.pending.head k.pending.len;
+        pending = ring pending_size (entries s.pending_ids s.pending_marks s.pending) k.pending.head k.pending.len;
         out = record {
-          frames = ring 1024 s.outbound k.outbound.head k.outbound.len;
+          frames = ring outbound_size s.outbound k.outbound.head k.outbound.len;
           waiting = k.waiting;
           held = e j;
           batch = c.batch;
@@ -100,12 +101,12 @@ module _ (s : ProducerState) (f : Full s) where
   accepts p =
       let c = s.core in
       let k = c.rings in
-      let place = place_behind 256 k.pending in
+      let place = place_behind pending_size k.pending in
       let id = c.ids.next_sequence_id in
       let e =
-      ap (λ (l : List OpSend). ring 256 l k.pending.head (longer_behind 256 k.pending).len)
+      ap (λ (l : List OpSend). ring pending_size l k.pending.head (longer_behind pending_size k.pending).len)
       (entries_put place s.pending_ids s.pending_marks s.pending (entry_of id 1 p) refl)
-      ∙ ring_onto 256 p256 all all_length k.pending.head k.pending.len (entry_of id 1 p) in
+      ∙ ring_onto pending_size p256 all all_length k.pending.head k.pending.len (entry_of id 1 p) in
       λ j.
       record {
         handle = c.handle;
@@ -114,18 +115,18 @@ module _ (s : ProducerState) (f : Full s) where
         counters = c.counters;
         pending = e j;
         out = record {
-          frames = ring 1024 s.outbound k.outbound.head k.outbound.len;
+          frames = ring outbound_size s.outbound k.outbound.head k.outbound.len;
           waiting = k.waiting;
-          held = ring 512 s.held k.held.head k.held.len;
+          held = ring held_size s.held k.held.head k.held.len;
           batch = c.batch;
         };
       }
 
   -- how many the definition sees
-  pub held_length : length (view s).out.held ≡ min s.core.rings.held.len 512
+  pub held_length : length (view s).out.held ≡ min s.core.rings.held.len held_size
   unfolding view
-  held_length = length_ring 512 p512 s.held f.held s.core.rings.held.head s.core.rings.held.len
+  held_length = length_ring held_size p512 s.held f.held s.core.rings.held.head s.core.rings.held.len
 
-  pub pending_length : length (view s).pending ≡ min s.core.rings.pending.len 256
+  pub pending_length : length (view s).pending ≡ min s.core.rings.pending.len pending_size
   unfolding view all
-  pending_length = length_ring 256 p256 all all_length s.core.rings.pending.head s.core.rings.pending.len
+  pending_length = length_ring pending_size p256 all all_length s.core.rings.pending.head s.core.rings.pending.len

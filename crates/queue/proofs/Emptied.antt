@@ -19,6 +19,7 @@ use Rattle.queue.specs.Ids.{published, set_initial_sequence_id}
 use Rattle.queue.specs.Batch.{is_empty, too_many, flushed, flush_batch}
 use Rattle.queue.specs.Send.{Sending, answer_of, add_to_batch, emit_single, emit_chunked, follow, carried_out, queue_send}
 use Rattle.queue.specs.Frame.{Frame, first_frame, frame_in}
+use Rattle.queue.specs.Sizes.{held_size, pending_size}
 use Rattle.queue.specs.Take.{take_from, next_outbound_frame}
 use Rattle.queue.specs.Settle.{settle, settled, answerable, found, apply_receipt, apply_send_error, due_count, drain_timed_out_sends}
 use Rattle.queue.specs.Tables.{batched_of, framed_of, all_well_formed, frames_for, unborne, drain_pending_sends, snapshot_pending_sends, replay_snapshots, replay_pending_outbound}
@@ -42,7 +43,7 @@ record Leaves (q : Queue) (c : Call) (r : Outcome (Gives c)) : Type 0 where
   len : len_in r.0 ≡ joined_since (len_in q) (events_of q c r.1)
 
 -- the count does not stop at 2^64 - 1
-follow_len : (a : Sending) (w : Way) (q : Queue) → len_in q ≤ 512 → len_in (follow a w q) ≡ joined_since (len_in q) (of_send w (answer_of a q w))
+follow_len : (a : Sending) (w : Way) (q : Queue) → len_in q ≤ held_size → len_in (follow a w q) ≡ joined_since (len_in q) (of_send w (answer_of a q w))
 unfolding follow flushed add_to_batch emit_single emit_chunked
 follow_len a (way.TooLarge true) q few = refl
 follow_len a (way.TooLarge false) q few = refl
@@ -113,7 +114,7 @@ module _ (store : List ℕ) (q : Queue) (k : Well q) where
   step_len (replay l) =
       let P : Outcome (Unit {0}) → Type 0 = Leaves q (replay l) in
       pick_ind P (not (all_well_formed l)) _ _ (λ x. record { len = refl })
-      (λ x. pick_ind P (ltb 256 (length l + length q.pending)) _ _ (λ y. record { len = refl })
+      (λ x. pick_ind P (ltb pending_size (length l + length q.pending)) _ _ (λ y. record { len = refl })
       (λ y. pick_ind P (too_many (frames_for l) q) _ _ (λ z. record { len = refl }) (λ z. record { len = refl })))
   step_len resend =
       pick_ind (Leaves q resend) (too_many (frames_for (unborne q.out.frames q.pending)) q) _ _ (λ z. record { len = refl }) (λ z. record { len = refl })

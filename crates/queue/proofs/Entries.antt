@@ -15,6 +15,7 @@ use Rattle.types.specs.declared.frame.FrameRecord.{FrameRecord}
 use Rattle.wire.specs.Batch.{All}
 use Rattle.queue.specs.Send.{total_chunks}
 use Rattle.queue.specs.Settle.{bears, unmark, without_id, settled, unmark_all}
+use Rattle.queue.specs.Sizes.{pending_size}
 use Rattle.queue.specs.Tables.{is_batched, framed_of, again, frames_for, has_chunk_count, well_formed, all_well_formed, mark, borne, unborne}
 use Rattle.queue.specs.Reachable.{left_all}
 use Rattle.laws.proofs.Choice.{pick_ind, and_left, and_right}
@@ -37,7 +38,7 @@ abbrev pub EachFormed : List OpSend → Type 0
 EachFormed l = All Formed l
 
 pub record Entries (l : List OpSend) : Type 0 where
-  pub few : length l ≤ 256
+  pub few : length l ≤ pending_size
   pub formed : EachFormed l
 
 pub formed_append : (a b : List OpSend) → EachFormed a → EachFormed b → EachFormed (a ++ b)
@@ -117,7 +118,7 @@ timed_entries gone n l = fewer_entries (timed_fewer same_formed gone n l)
 
 -- ── an entry more ──
 
-pub one_more : (l : List OpSend) (op : OpSend) → Entries l → length l < 256 → Formed op → Entries (l ++ op ∷ [])
+pub one_more : (l : List OpSend) (op : OpSend) → Entries l → length l < pending_size → Formed op → Entries (l ++ op ∷ [])
 one_more l op k room formed =
     record { few = rw length-append (omega arith); formed = formed_append l (op ∷ []) k.formed (formed, tt) }
 

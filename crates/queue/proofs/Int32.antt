@@ -36,6 +36,7 @@ use Rattle.queue.specs.Ids.{published, set_initial_sequence_id}
 use Rattle.queue.specs.Batch.{at_least_one, can_add_to_batch, batchable, may_join, is_empty, too_many, flushed, flush_batch}
 use Rattle.queue.specs.Send.{Sending, large, total_chunks, way_into, left_of, flushes_before, add_to_batch, emit_single, emit_chunked, flush_if, follow}
 use Rattle.queue.specs.Frame.{Frame, first_frame, frame_in}
+use Rattle.queue.specs.Sizes.{outbound_size, pending_size}
 use Rattle.queue.specs.Take.{rest_of, take_from, next_outbound_frame}
 use Rattle.queue.specs.Settle.{Handed, settled, settle, answerable, found, apply_receipt, apply_send_error, due_count, drain_timed_out_sends}
 use Rattle.queue.specs.Tables.{drain_pending_sends, batched_of, framed_of, snapshot_pending_sends, has_chunk_count, all_well_formed, kind_again, again, frames_for, fronted, replay_snapshots, unborne, replay_pending_outbound}
@@ -143,7 +144,7 @@ flush_fits : (flush : Bool) (time : ℕ) (q : Queue) → Fits q → Fits (flush_
 unfolding flushed
 flush_fits true time q k =
     record {
-      frames = onto_all FitsRecord 1024 q.out.frames _ k.frames (omega (arith, k.batch));
+      frames = onto_all FitsRecord outbound_size q.out.frames _ k.frames (omega (arith, k.batch));
       pending = k.pending;
       batch = omega arith;
       limit = k.limit;
@@ -166,7 +167,7 @@ follow_fits a (way.Join before after) q k is32 short r =
     flush_fits after a.publish_time (add_to_batch a p)
     (record {
       frames = f.frames;
-      pending = onto_all FitsEntry 256 p.pending _ f.pending is32;
+      pending = onto_all FitsEntry pending_size p.pending _ f.pending is32;
       batch = rw (left_is a.message before a.publish_time q) r;
       limit = f.limit;
     })
@@ -174,8 +175,8 @@ follow_fits a (way.Single before) q k is32 short r =
     let p = flush_if before a.publish_time q in
     let f = flush_fits before a.publish_time q k in
     record {
-      frames = onto_all FitsRecord 1024 p.out.frames _ f.frames is32;
-      pending = onto_all FitsEntry 256 p.pending _ f.pending is32;
+      frames = onto_all FitsRecord outbound_size p.out.frames _ f.frames is32;
+      pending = onto_all FitsEntry pending_size p.pending _ f.pending is32;
       batch = f.batch;
       limit = f.limit;
     }
@@ -184,8 +185,8 @@ follow_fits a (way.Chunked before size count) q k is32 short r =
     let f = flush_fits before a.publish_time q k in
     let fits : (count < 2 ^ 31) × (0 < 2 ^ 31) × (a.message.payload.len < 2 ^ 31) = (r, omega arith, omega arith) in
     record {
-      frames = onto_all FitsRecord 1024 p.out.frames _ f.frames fits;
-      pending = onto_all FitsEntry 256 p.pending _ f.pending fits;
+      frames = onto_all FitsRecord outbound_size p.out.frames _ f.frames fits;
+      pending = onto_all FitsEntry pending_size p.pending _ f.pending fits;
       batch = f.batch;
       limit = f.limit;
     }
@@ -250,14 +251,14 @@ module _ (store : List ℕ) (q : Queue) (k : Fits q) where
   settle_fits id give change f false op = k
 
   fronted_fits : (l : List OpSend) → All FitsEntry l → All FitsRecord (fronted l q.out).frames
-  fronted_fits l h = front_fits 1024 (framed_of l) q.out.frames (framed_all FitsEntry l h) k.frames
+  fronted_fits l h = front_fits outbound_size (framed_of l) q.out.frames (framed_all FitsEntry l h) k.frames
 
   replay_fits : (l : List OpSend) → Counted (replay l) → Fits (replay_snapshots l q).0
   unfolding replay_snapshots
   replay_fits l is32 =
       let P : Outcome (Unit {0}) → Type 0 = λ x. Fits x.0 in
       pick_ind P (not (all_well_formed l)) _ _ (λ x. k)
-      (λ x. pick_ind P (ltb 256 (length l + length q.pending)) _ _ (λ y. k)
+      (λ x. pick_ind P (ltb pending_size (length l + length q.pending)) _ _ (λ y. k)
       (λ y. pick_ind P (too_many (frames_for l) q) _ _ (λ z. k)
       (λ z.
       let h = entries_fit l (all_well_formed_lem l (not-false _ x)) is32 in

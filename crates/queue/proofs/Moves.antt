@@ -14,6 +14,7 @@ use Rattle.types.specs.declared.frame.FrameRecord.{FrameRecord}
 use Rattle.queue.specs.Queue.{Queue, Outgoing}
 use Rattle.queue.specs.Batch.{at_least_one, single_of, grown, with_batch, batch_record, flushed}
 use Rattle.queue.specs.Send.{Sending, total_chunks, within_bounds, one, entry, record_of, add_to_batch, emit_single, emit_chunked, flush_if}
+use Rattle.queue.specs.Sizes.{outbound_size, held_size, pending_size}
 use Rattle.queue.proofs.ItemBounds.{Sendable}
 use Rattle.queue.proofs.Sound.{Sound, appended, push_room, append_sound, flush_sound, joined_to, join_sound}
 use Rattle.queue.proofs.Entries.{Entries, one_more, some_chunk}
@@ -34,48 +35,48 @@ chunked_record q a size count =
     (kind.Chunked (record { total_chunks = count; next_chunk = 0; max_chunk_size = size }))
 
 module _ (q : Queue) (k : Well q) where
-  pub flush_out : (time : ℕ) → q.out.waiting + 1 ≤ 1024
+  pub flush_out : (time : ℕ) → q.out.waiting + 1 ≤ outbound_size
       → (flushed time q).out ≡ with_batch empty_batch (appended (batch_record q.settings time q.out.batch) 1 q.out)
   unfolding flushed
   flush_out time room = ap (with_batch empty_batch) (push_room q.out (batch_record q.settings time q.out.batch) 1 k.out (omega arith) room)
 
-  pub join_out : (a : Sending) → length q.out.held < 512
+  pub join_out : (a : Sending) → length q.out.held < held_size
       → (add_to_batch a q).out ≡ joined_to (single_of a.message) (grown a.message q.ids.next_sequence_id.0 a.now q.out.batch) q.out
   unfolding add_to_batch
-  join_out a room = rw (lt-ltb (length q.out.held) 512 room)
+  join_out a room = rw (lt-ltb (length q.out.held) held_size room)
 
-  pub single_out_lem : (a : Sending) → q.out.waiting + 1 ≤ 1024 → (emit_single a q).out ≡ appended (single_record q a) 1 q.out
+  pub single_out_lem : (a : Sending) → q.out.waiting + 1 ≤ outbound_size → (emit_single a q).out ≡ appended (single_record q a) 1 q.out
   unfolding emit_single
   single_out_lem a room = push_room q.out (single_record q a) 1 k.out (omega arith) room
 
-  pub chunked_out : (a : Sending) (size count : ℕ) → 1 ≤ count → q.out.waiting + count ≤ 1024
+  pub chunked_out : (a : Sending) (size count : ℕ) → 1 ≤ count → q.out.waiting + count ≤ outbound_size
       → (emit_chunked a size count q).out ≡ appended (chunked_record q a size count) count q.out
   unfolding emit_chunked
   chunked_out a size count any room = push_room q.out (chunked_record q a size count) count k.out any room
 
-  pub flush_well : (time : ℕ) → q.out.waiting + 1 ≤ 1024 → Well (flushed time q)
+  pub flush_well : (time : ℕ) → q.out.waiting + 1 ≤ outbound_size → Well (flushed time q)
   unfolding flushed
   flush_well time room =
       record { out = rw (flush_out time room) (flush_sound q.out q.settings time k.out room); pending = k.pending }
 
-  pub join_well : (a : Sending) → length q.out.held < 512 → length q.pending < 256 → Sendable a → Well (add_to_batch a q)
+  pub join_well : (a : Sending) → length q.out.held < held_size → length q.pending < pending_size → Sendable a → Well (add_to_batch a q)
   unfolding add_to_batch
   join_well a held pending s =
       record {
         out = rw (join_out a held) (join_sound q.out a.message q.ids.next_sequence_id.0 a.now k.out held s.bounds);
-        pending = rw (lt-ltb (length q.pending) 256 pending) (one_more q.pending _ k.pending pending s.within);
+        pending = rw (lt-ltb (length q.pending) pending_size pending) (one_more q.pending _ k.pending pending s.within);
       }
 
-  pub single_well : (a : Sending) → q.out.waiting + 1 ≤ 1024 → length q.pending < 256 → Sendable a → Well (emit_single a q)
+  pub single_well : (a : Sending) → q.out.waiting + 1 ≤ outbound_size → length q.pending < pending_size → Sendable a → Well (emit_single a q)
   unfolding emit_single
   single_well a room pending s =
       record {
         out = rw (single_out_lem a room) (append_sound q.out (single_record q a) 1 k.out refl refl (omega arith) room);
-        pending = rw (lt-ltb (length q.pending) 256 pending) (one_more q.pending _ k.pending pending s.within);
+        pending = rw (lt-ltb (length q.pending) pending_size pending) (one_more q.pending _ k.pending pending s.within);
       }
 
-  pub chunked_well : (a : Sending) (size count : ℕ) → count ≡ total_chunks a.message.payload.len size → q.out.waiting + count ≤ 1024
-      → length q.pending < 256 → Sendable a → Well (emit_chunked a size count q)
+  pub chunked_well : (a : Sending) (size count : ℕ) → count ≡ total_chunks a.message.payload.len size → q.out.waiting + count ≤ outbound_size
+      → length q.pending < pending_size → Sendable a → Well (emit_chunked a size count q)
   unfolding emit_chunked
   chunked_well a size count e room pending s =
       let any : 1 ≤ count = rw e (some_chunk a.message.payload.len size) in
@@ -83,7 +84,7 @@ module _ (q : Queue) (k : Well q) where
       rw (eq-eqb count (total_chunks a.message.payload.len size) e) s.within in
       record {
         out = rw (chunked_out a size count any room) (append_sound q.out (chunked_record q a size count) count k.out (omega arith) refl any room);
-        pending = rw (lt-ltb (length q.pending) 256 pending) (one_more q.pending _ k.pending pending formed);
+        pending = rw (lt-ltb (length q.pending) pending_size pending) (one_more q.pending _ k.pending pending formed);
       }
 
 -- ── the flush before or after ──
@@ -94,7 +95,7 @@ pub record AfterFlush (flush : Bool) (q p : Queue) : Type 0 where
   pub held : p.out.held ≡ q.out.held
   pub pending : p.pending ≡ q.pending
 
-pub flush_if_lem : (q : Queue) → Well q → (flush : Bool) (time : ℕ) → q.out.waiting + one flush ≤ 1024 → AfterFlush flush q (flush_if flush time q)
+pub flush_if_lem : (q : Queue) → Well q → (flush : Bool) (time : ℕ) → q.out.waiting + one flush ≤ outbound_size → AfterFlush flush q (flush_if flush time q)
 unfolding flushed
 flush_if_lem q k true time room =
     let e = flush_out q k time room in

@@ -24,6 +24,7 @@ use Rattle.queue.specs.Ids.{published, set_initial_sequence_id}
 use Rattle.queue.specs.Batch.{too_many, flush_batch, is_empty, may_join}
 use Rattle.queue.specs.Send.{Sending, Decision, large, total_chunks, way_into, way_of, flushes_before, pushes, joins, is_too_large, message_in, within_bounds, Plan, no, go, plan, add_to_batch, flush_if, follow, carried_out, queue_send}
 use Rattle.queue.specs.Frame.{Frame, first_frame, frame_in}
+use Rattle.queue.specs.Sizes.{outbound_size, held_size, pending_size}
 use Rattle.queue.specs.Take.{take_from, next_outbound_frame}
 use Rattle.queue.specs.Settle.{Handed, settled, settle, answerable, found, apply_receipt, apply_send_error, due_count, unmark_all, hand_out, drain_timed_out_sends}
 use Rattle.queue.specs.Tables.{drain_pending_sends, batched_of, framed_of, snapshot_pending_sends, all_well_formed, frames_for, again, fronted, replay_snapshots, unborne, replay_pending_outbound}
@@ -51,9 +52,9 @@ way_chunks t m before b =
 
 -- what refusals 4, 5 and 7 leave of room
 pub record Passed (w : Way) (q : Queue) : Type 0 where
-  pub frames : q.out.waiting + pushes w ≤ 1024
-  pub held : (joins w && leb 512 (length q.out.held)) ≡ false
-  pub pending : is_too_large w ≡ false → length q.pending < 256
+  pub frames : q.out.waiting + pushes w ≤ outbound_size
+  pub held : (joins w && leb held_size (length q.out.held)) ≡ false
+  pub pending : is_too_large w ≡ false → length q.pending < pending_size
 
 pub follow_well : (a : Sending) (w : Way) (q : Queue) → Well q → Sendable a → ChunkCount a.message w → Passed w q → Well (follow a w q)
 unfolding follow
@@ -61,7 +62,7 @@ follow_well a (way.TooLarge before) q k s c r = (flush_if_lem q k before a.publi
 follow_well a (way.Join before after) q k s c r =
     let f = flush_if_lem q k before a.publish_time (omega (arith, r.frames)) in
     let p = flush_if before a.publish_time q in
-    let held : length p.out.held < 512 = rw f.held (leb-false 512 (length q.out.held) r.held) in
+    let held : length p.out.held < held_size = rw f.held (leb-false held_size (length q.out.held) r.held) in
     let j = join_well p f.well a held (rw f.pending (r.pending refl)) s in
     (flush_if_lem (add_to_batch a p) j after a.publish_time (rw (join_waiting a p) (omega (arith, f.waiting, r.frames)))).well
 follow_well a (way.Single before) q k s c r =
@@ -87,13 +88,13 @@ module _ (n : ℕ) (a : Sending) (q : Queue) where
       (λ x. pick_ind P (not (message_in n a.message a.message.payload)) _ _ (λ y. stay 2 refl)
       (λ i. pick_ind P (not (within_bounds a.message a.reserved)) _ _ (λ y. stay 3 refl)
       (λ b. pick_ind P (too_many (pushes way_of_lem) q) _ _ (λ y. stay 4 refl)
-      (λ f. pick_ind P (joins way_of_lem && leb 512 (length q.out.held)) _ _ (λ y. stay 5 refl)
+      (λ f. pick_ind P (joins way_of_lem && leb held_size (length q.out.held)) _ _ (λ y. stay 5 refl)
       (λ h.
-      let frames : q.out.waiting + pushes way_of_lem ≤ 1024 = ltb-false 1024 (q.out.waiting + pushes way_of_lem) f in
+      let frames : q.out.waiting + pushes way_of_lem ≤ outbound_size = ltb-false outbound_size (q.out.waiting + pushes way_of_lem) f in
       pick_ind P (is_too_large way_of_lem) _ _
       (λ l. goes (not-false _ i) (not-false _ b) (record { frames = frames; held = h; pending = λ e. false_true (sym e ∙ l) }))
-      (λ l. pick_ind P (leb 256 (length q.pending)) _ _ (λ y. stay 7 refl)
-      (λ y. goes (not-false _ i) (not-false _ b) (record { frames = frames; held = h; pending = λ e. leb-false 256 (length q.pending) y }))))))))
+      (λ l. pick_ind P (leb pending_size (length q.pending)) _ _ (λ y. stay 7 refl)
+      (λ y. goes (not-false _ i) (not-false _ b) (record { frames = frames; held = h; pending = λ e. leb-false pending_size (length q.pending) y }))))))))
 
   pub send_cases : (P : Outcome Decision → Type 0) → ((number : ℕ) → P (refuse number q)) → Goes (P (carried_out a q (go way_of_lem))) → P (queue_send n a q)
   unfolding queue_send
@@ -131,14 +132,14 @@ module _ (store : List ℕ) (q : Queue) (k : Well q) where
 
   -- ── replays ──
 
-  fronted_sound : (l : List OpSend) → EachFormed l → q.out.waiting + frames_for l ≤ 1024 → Sound (fronted l q.out)
+  fronted_sound : (l : List OpSend) → EachFormed l → q.out.waiting + frames_for l ≤ outbound_size → Sound (fronted l q.out)
   fronted_sound l formed room =
       let o = q.out in
       let rs = map again (framed_of l) in
       let x = again_all l formed in
-      let fits : length rs + length o.frames ≤ 1024 = omega (arith, waits_length rs x.each, x.counted, records_fit o k.out) in
+      let fits : length rs + length o.frames ≤ outbound_size = omega (arith, waits_length rs x.each, x.counted, records_fit o k.out) in
       let sum : add_sat (frames_for l) o.waiting ≡ frames_for l + o.waiting = omega arith in
-      rw (front_room 1024 rs o.frames fits, sum)
+      rw (front_room outbound_size rs o.frames fits, sum)
       (record {
         counted = rw left_append (omega (arith, x.counted, k.out.counted));
         each = waits_append rs o.frames x.each k.out.each;
@@ -156,14 +157,14 @@ module _ (store : List ℕ) (q : Queue) (k : Well q) where
   replay_well l =
       let P : Outcome (Unit {0}) → Type 0 = λ x. Well x.0 in
       pick_ind P (not (all_well_formed l)) _ _ (λ x. k)
-      (λ x. pick_ind P (ltb 256 (length l + length q.pending)) _ _ (λ y. k)
+      (λ x. pick_ind P (ltb pending_size (length l + length q.pending)) _ _ (λ y. k)
       (λ y. pick_ind P (too_many (frames_for l) q) _ _ (λ z. k)
       (λ z.
       let formed : EachFormed l = all_well_formed_lem l (not-false _ x) in
       record {
-        out = fronted_sound l formed (ltb-false 1024 (q.out.waiting + frames_for l) z);
+        out = fronted_sound l formed (ltb-false outbound_size (q.out.waiting + frames_for l) z);
         pending = record {
-          few = rw (length-map, length-append) (ltb-false 256 (length l + length q.pending) y);
+          few = rw (length-map, length-append) (ltb-false pending_size (length l + length q.pending) y);
           formed = marked_all same_formed (l ++ q.pending) (formed_append l q.pending formed k.pending.formed);
         };
       })))
@@ -174,7 +175,7 @@ module _ (store : List ℕ) (q : Queue) (k : Well q) where
       let l = unborne q.out.frames q.pending in
       pick_ind (λ (x : Outcome ℕ). Well x.0) (too_many (frames_for l) q) _ _ (λ z. k)
       (λ z. record {
-        out = fronted_sound l (unborne_all _ q.out.frames q.pending k.pending.formed) (ltb-false 1024 (q.out.waiting + frames_for l) z);
+        out = fronted_sound l (unborne_all _ q.out.frames q.pending k.pending.formed) (ltb-false outbound_size (q.out.waiting + frames_for l) z);
         pending = k.pending;
       })
 
@@ -190,7 +191,7 @@ module _ (store : List ℕ) (q : Queue) (k : Well q) where
       let P : Outcome ℕ → Type 0 = λ x. Well x.0 in
       pick_ind P (is_empty q.out.batch) _ _ (λ x. k)
       (λ x. pick_ind P q.settings.switches.closed _ _ (λ y. k)
-      (λ y. pick_ind P (too_many 1 q) _ _ (λ z. k) (λ z. flush_well q k time (ltb-false 1024 (q.out.waiting + 1) z))))
+      (λ y. pick_ind P (too_many 1 q) _ _ (λ z. k) (λ z. flush_well q k time (ltb-false outbound_size (q.out.waiting + 1) z))))
   step_well (take room) is64 = take_well room q.out.frames refl
   step_well (receipt id message_id) is64 =
       settle_well id (λ (op : OpSend). (op, of_receipt message_id)) (λ (p : Queue). with_ids (published id p.ids) p) (λ p h. record { out = h.out; pending = h.pending }) (answerable id q.pending) (found id q.pending)

@@ -16,6 +16,7 @@ use Rattle.wire.specs.Batch.{All}
 use Rattle.queue.specs.Queue.{Queue, Outcome, done, refuse, new_queue, empty_outgoing, with_pending, with_out}
 use Rattle.queue.specs.Settings.{changed}
 use Rattle.queue.specs.Settle.{Handed, handed}
+use Rattle.queue.specs.Sizes.{outbound_size, pending_size}
 use Rattle.queue.specs.Tables.{is_batched, batched_of, framed_of, failed, frames_for, again, mark, borne, unborne, snapshot_pending_sends, replay_snapshots, replay_pending_outbound}
 use Rattle.queue.specs.Run.{after}
 use Rattle.queue.specs.Restore.{RestoreRule}
@@ -103,7 +104,7 @@ snapshot_is droppedRoom replayRoom q p d r e =
         let tables : given ≡ written = cc (ap (λ x. x.1) e) in
         record { queue = sym (ap (λ x. x.0) e); dropped = ap (λ x. x.0.entries) tables; kept = ap (λ x. x.1.entries) tables }
 
-module _ (q : Queue) (l : List OpSend) (formed : EachFormed l) (framed : framed_of l ≡ l) (few : length l ≤ 256) (room : frames_for l ≤ 1024) where
+module _ (q : Queue) (l : List OpSend) (formed : EachFormed l) (framed : framed_of l ≡ l) (few : length l ≤ pending_size) (room : frames_for l ≤ outbound_size) where
   replay_is : replay_snapshots l (snapped q) ≡ (restored l q, done tt)
   unfolding replay_snapshots
   replay_is =
@@ -112,10 +113,10 @@ module _ (q : Queue) (l : List OpSend) (formed : EachFormed l) (framed : framed_
       let sum : add_sat (frames_for l) 0 ≡ frames_for l = omega arith in
       rw (
         formed_all l formed,
-        le-ltb 256 (length l + 0) (omega arith),
-        le-ltb 1024 (0 + frames_for l) (omega arith),
+        le-ltb pending_size (length l + 0) (omega arith),
+        le-ltb outbound_size (0 + frames_for l) (omega arith),
         framed,
-        front_room 1024 (map again l) [] (omega arith),
+        front_room outbound_size (map again l) [] (omega arith),
         append-nil (map again l),
         append-nil l,
         sum,
@@ -125,7 +126,7 @@ module _ (q : Queue) (l : List OpSend) (formed : EachFormed l) (framed : framed_
   unfolding replay_pending_outbound
   once_only =
       let sum : add_sat 0 (frames_for l) ≡ frames_for l = omega arith in
-      rw (all_borne [] l, le-ltb 1024 (frames_for l + 0) (omega arith), sum)
+      rw (all_borne [] l, le-ltb outbound_size (frames_for l + 0) (omega arith), sum)
 
 pub restore_rule : RestoreRule
 restore_rule store handle cs is64 droppedRoom replayRoom p d r e room =
@@ -134,8 +135,8 @@ restore_rule store handle cs is64 droppedRoom replayRoom p d r e room =
     let k = run_well store cs (new_queue handle) (new_well handle) is64 in
     let s = snapshot_is droppedRoom replayRoom q p d r e in
     let formed = framed_all _ q.pending k.pending.formed in
-    let few : length l ≤ 256 = omega (arith, framed_fewer q.pending, k.pending.few) in
-    let fits : frames_for l ≤ 1024 = rw s.kept at room in
+    let few : length l ≤ pending_size = omega (arith, framed_fewer q.pending, k.pending.few) in
+    let fits : frames_for l ≤ outbound_size = rw s.kept at room in
     let is : replay_snapshots r p ≡ (restored l q, done tt) =
     rw (s.kept, s.queue) (replay_is q l formed (framed_again q.pending) few fits) in
     let once = once_only q l formed (framed_again q.pending) few fits in

@@ -14,6 +14,7 @@ use Rattle.types.specs.declared.way.Way.TheVariants as way
 use Rattle.queue.specs.Queue.{Queue, Outcome, done, new_queue}
 use Rattle.queue.specs.Batch.{is_empty, too_many, flush_batch}
 use Rattle.queue.specs.Send.{one, joins, is_too_large, go, flushes_before, way_of}
+use Rattle.queue.specs.Sizes.{outbound_size, held_size, pending_size}
 use Rattle.queue.specs.Tables.{framed_of, frames_for, again, all_well_formed, unborne, replay_snapshots, replay_pending_outbound}
 use Rattle.queue.specs.Run.{Call, send, flush, take, receipt, send_error, timeouts, initial_id, set, set_name, close, query, drain, snapshot, replay, resend, after}
 use Rattle.queue.specs.Reachable.{records, HasRoom, FindsRoom, ReachableRule}
@@ -34,7 +35,7 @@ module _ (store : List ℕ) (q : Queue) (k : Well q) where
   send_room m (way.Join before after) c p =
       record {
         frames = omega (arith, records_fit q.out k.out, p.frames);
-        held = omega (arith, leb-false 512 (length q.out.held) p.held);
+        held = omega (arith, leb-false held_size (length q.out.held) p.held);
         pending = omega (arith, p.pending refl);
       }
   send_room m (way.Single before) c p =
@@ -52,7 +53,7 @@ module _ (store : List ℕ) (q : Queue) (k : Well q) where
       }
 
   -- the records of entries are no more than their frames
-  replay_room : (l : List OpSend) (pending : ℕ) → EachFormed l → q.out.waiting + frames_for l ≤ 1024 → length q.pending + pending ≤ 256
+  replay_room : (l : List OpSend) (pending : ℕ) → EachFormed l → q.out.waiting + frames_for l ≤ outbound_size → length q.pending + pending ≤ pending_size
       → HasRoom q (length (framed_of l)) 0 pending
   replay_room l pending formed room few =
       let x = again_all l formed in
@@ -80,7 +81,7 @@ module _ (store : List ℕ) (q : Queue) (k : Well q) where
       (λ x. pick_ind P q.settings.switches.closed _ _ (λ y e. differ (cc))
       (λ y. pick_ind P (too_many 1 q) _ _ (λ z e. differ (cc))
       (λ z e. record {
-        frames = omega (arith, records_fit q.out k.out, ltb-false 1024 (q.out.waiting + 1) z);
+        frames = omega (arith, records_fit q.out k.out, ltb-false outbound_size (q.out.waiting + 1) z);
         held = omega (arith, k.out.held);
         pending = omega (arith, k.pending.few);
       })))
@@ -98,16 +99,16 @@ module _ (store : List ℕ) (q : Queue) (k : Well q) where
   finds_room (replay l) =
       let P : Outcome (Unit {0}) → Type 0 = λ r. r.1 ≡ done tt → HasRoom q (length (framed_of l)) 0 (length l) in
       pick_ind P (not (all_well_formed l)) _ _ (λ x e. differ (cc))
-      (λ x. pick_ind P (ltb 256 (length l + length q.pending)) _ _ (λ y e. differ (cc))
+      (λ x. pick_ind P (ltb pending_size (length l + length q.pending)) _ _ (λ y e. differ (cc))
       (λ y. pick_ind P (too_many (frames_for l) q) _ _ (λ z e. differ (cc))
-      (λ z e. replay_room l (length l) (all_well_formed_lem l (not-false _ x)) (ltb-false 1024 (q.out.waiting + frames_for l) z)
-      (omega (arith, ltb-false 256 (length l + length q.pending) y)))))
+      (λ z e. replay_room l (length l) (all_well_formed_lem l (not-false _ x)) (ltb-false outbound_size (q.out.waiting + frames_for l) z)
+      (omega (arith, ltb-false pending_size (length l + length q.pending) y)))))
   finds_room resend =
       λ frames.
       let l = unborne q.out.frames q.pending in
       let P : Outcome ℕ → Type 0 = λ r. r.1 ≡ done frames → HasRoom q (length (framed_of l)) 0 0 in
       pick_ind P (too_many (frames_for l) q) _ _ (λ z e. differ (cc))
-      (λ z e. replay_room l 0 (unborne_all _ q.out.frames q.pending k.pending.formed) (ltb-false 1024 (q.out.waiting + frames_for l) z)
+      (λ z e. replay_room l 0 (unborne_all _ q.out.frames q.pending k.pending.formed) (ltb-false outbound_size (q.out.waiting + frames_for l) z)
       (omega (arith, k.pending.few)))
 
 pub reachable_rule : ReachableRule

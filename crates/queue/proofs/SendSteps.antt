@@ -24,6 +24,7 @@ use Rattle.queue.specs.Message.{Message, message_of}
 use Rattle.queue.specs.Run.{Call, send, Ranged, Gives, frame_of, accepted_by}
 use Rattle.queue.specs.Order.{Covered}
 use Rattle.queue.specs.Chunks.{OfBatch, EmitsNone, Cuts, none_cut, not_cut, one_cut}
+use Rattle.queue.specs.Sizes.{outbound_size, held_size}
 use Rattle.laws.proofs.Choice.{pick_ind, false_true, and_left, and_right, or_left, or_right}
 use Rattle.queue.proofs.ItemBounds.{Sendable, sendable}
 use Rattle.queue.proofs.Moves.{Well, flush_out, join_out, single_out_lem, chunked_out, single_record, chunked_record, join_well, AfterFlush, flush_if_lem, join_waiting}
@@ -143,14 +144,14 @@ module _ (q : Queue) where
 
 module _ (store : List ℕ) (q : Queue) (took : List Frame) (acc : List Message) (all : List Frame)
     (k : Holds store q.handle q.out took acc all) (w : Well q) where
-  pub flush_if_holds : (flush : Bool) (time : ℕ) → q.out.waiting + one flush ≤ 1024
+  pub flush_if_holds : (flush : Bool) (time : ℕ) → q.out.waiting + one flush ≤ outbound_size
       → Grows OfBatch store (flush_if flush time q).handle (flush_if flush time q).out took acc all
   unfolding flushed
   flush_if_holds true time room =
       rw (flush_out q w time room) (flush_holds store q.handle q.out took acc all k q.settings time)
   flush_if_holds false time room = grows_none k
 
-  join_keeps : (a : Sending) → length q.out.held < 512 → Kept store (single_of a.message)
+  join_keeps : (a : Sending) → length q.out.held < held_size → Kept store (single_of a.message)
       → (is_empty q.out.batch ≡ false → q.out.batch.txn_id ≡ a.message.txn_id)
       → Holds store (add_to_batch a q).handle (add_to_batch a q).out took (acc ++ message_of store a.message ∷ []) all
   unfolding add_to_batch
@@ -158,7 +159,7 @@ module _ (store : List ℕ) (q : Queue) (took : List Frame) (acc : List Message)
       rw (join_out q w a room)
       (join_holds store q.handle q.out took acc all k a.message q.ids.next_sequence_id.0 a.now (omega (arith, w.out.shared)) kept agrees)
 
-  single_keeps : (a : Sending) → q.out.waiting + 1 ≤ 1024 → q.out.batch.len ≡ 0
+  single_keeps : (a : Sending) → q.out.waiting + 1 ≤ outbound_size → q.out.batch.len ≡ 0
       → message_in (length store) a.message a.message.payload ≡ true
       → Holds store (emit_single a q).handle (emit_single a q).out took (acc ++ message_of store a.message ∷ [])
       (all ++ single_frame store q.handle (single_record q a) ∷ [])
@@ -166,7 +167,7 @@ module _ (store : List ℕ) (q : Queue) (took : List Frame) (acc : List Message)
   single_keeps a room e i =
       rw (single_out_lem q w a room) (single_holds store q.handle q.out took acc all k (single_record q a) e i)
 
-  chunked_keeps : (a : Sending) (size count : ℕ) → 1 ≤ count → q.out.waiting + count ≤ 1024 → q.out.batch.len ≡ 0
+  chunked_keeps : (a : Sending) (size count : ℕ) → 1 ≤ count → q.out.waiting + count ≤ outbound_size → q.out.batch.len ≡ 0
       → message_in (length store) a.message a.message.payload ≡ true
       → Cut a.message.payload.len size count
       → Holds store (emit_chunked a size count q).handle (emit_chunked a size count q).out took (acc ++ message_of store a.message ∷ [])
@@ -191,8 +192,8 @@ module _ (store : List ℕ) (q : Queue) (took : List Frame) (acc : List Message)
         let time = a.publish_time in
         let b = left_of t m before q.out.batch in
         let p = flush_if before time q in
-        let f : q.out.waiting + one before ≤ 1024 → AfterFlush before q p = λ r. flush_if_lem q w before time r in
-        let h : q.out.waiting + one before ≤ 1024 → Grows OfBatch store p.handle p.out took acc all =
+        let f : q.out.waiting + one before ≤ outbound_size → AfterFlush before q p = λ r. flush_if_lem q w before time r in
+        let h : q.out.waiting + one before ≤ outbound_size → Grows OfBatch store p.handle p.out took acc all =
         λ r. flush_if_holds store q took acc all k w before time r in
         let P : Way → Type 0 = λ x. Passed x q → Keeps store q (send a) took acc all (carried_out a q (go x)) in
         pick_ind P (large t m && not t.switches.chunking_enabled) _ _
@@ -202,10 +203,10 @@ module _ (store : List ℕ) (q : Queue) (took : List Frame) (acc : List Message)
         (record { more = g.more; each = g.each; holds = still g.holds }))
         (λ within. pick_ind P (may_join t b m) _ _
         (λ j r.
-        let room : q.out.waiting + one before ≤ 1024 = omega (arith, r.frames) in
+        let room : q.out.waiting + one before ≤ outbound_size = omega (arith, r.frames) in
         let g = h room in
         let x = f room in
-        let held : length p.out.held < 512 = rw x.held (leb-false 512 (length q.out.held) r.held) in
+        let held : length p.out.held < held_size = rw x.held (leb-false held_size (length q.out.held) r.held) in
         let joined = join_keeps store p took acc (all ++ g.more) g.holds x.well a held (kept_of store m i s.bounds) (agreed q before m time e j) in
         let well = join_well p x.well a held (rw x.pending (r.pending refl)) s in
         plain_keeps store q (send a) took acc all _ tt
@@ -215,7 +216,7 @@ module _ (store : List ℕ) (q : Queue) (took : List Frame) (acc : List Message)
         (rw (join_waiting a p) (omega (arith, x.waiting, r.frames)))))))
         (λ j. pick_ind P (large t m) _ _
         (λ y r.
-        let room : q.out.waiting + one before ≤ 1024 = omega (arith, r.frames) in
+        let room : q.out.waiting + one before ≤ outbound_size = omega (arith, r.frames) in
         let g = h room in
         let x = f room in
         let size = chunk_size limit in
@@ -236,7 +237,7 @@ module _ (store : List ℕ) (q : Queue) (took : List Frame) (acc : List Message)
               (omega (arith, x.waiting, r.frames)) (emptied q before m time e j) i cut);
         })
         (λ y r.
-        let room : q.out.waiting + one before ≤ 1024 = omega (arith, r.frames) in
+        let room : q.out.waiting + one before ≤ outbound_size = omega (arith, r.frames) in
         let g = h room in
         let x = f room in
         record {

@@ -22,6 +22,7 @@ use Rattle.queue.specs.Send.{message_in}
 use Rattle.queue.specs.Frame.{Frame, single_frame}
 use Rattle.queue.specs.Chunks.{OfBatch}
 use Rattle.queue.specs.Message.{Message, message_of}
+use Rattle.queue.specs.Sizes.{held_size}
 use Rattle.queue.proofs.Sound.{Sound, appended, joined_to}
 use Rattle.queue.proofs.Reading.{ReadAs, read_more, read_single_lem, batch_messages, read_batch_frame, chunk_run, from_first, Cut, read_chunks}
 use Rattle.queue.proofs.Groups.{Group, single, batch, chunks, record_in, held_in, frames_in, Kept, Agrees, frames_all, map_snoc, all_snoc, held_snoc, frames_snoc, frames_count, Stands}
@@ -150,7 +151,7 @@ module _ (store : List ℕ) (handle : ProducerHandle) (o : Outgoing) (took : Lis
       (record { inside = i; cut = cut; left = omega arith }) refl (read_chunks store handle r n size (suc n) cut refl)
 
   -- a message joins the open batch
-  pub join_holds : (m : OutgoingMessage) (id now : ℕ) → o.batch.len ≤ 512 → Kept store (single_of m)
+  pub join_holds : (m : OutgoingMessage) (id now : ℕ) → o.batch.len ≤ held_size → Kept store (single_of m)
       → (is_empty o.batch ≡ false → o.batch.txn_id ≡ m.txn_id)
       → Holds store handle (joined_to (single_of m) (grown m id now o.batch) o) took (acc ++ message_of store m ∷ []) all
   join_holds m id now few kept agrees =

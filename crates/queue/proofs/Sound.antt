@@ -22,6 +22,7 @@ use Rattle.types.specs.declared.message.SingleMessage.{SingleMessage}
 use Rattle.types.specs.declared.settings.ProducerSettings.{ProducerSettings}
 use Rattle.queue.specs.Queue.{Outgoing, empty_outgoing}
 use Rattle.queue.specs.Batch.{single_of, grown, push, with_batch, batch_record}
+use Rattle.queue.specs.Sizes.{outbound_size, held_size}
 use Rattle.queue.specs.Take.{with_kind, next_chunk, rest_of, holds, after_take}
 use Rattle.queue.specs.Reachable.{left, left_all, open_of, payload_sum}
 use Rattle.laws.proofs.Choice.{pick_ind}
@@ -38,9 +39,9 @@ held_by (r ∷ rs) = holds r.kind + held_by rs
 pub record Sound (o : Outgoing) : Type 0 where
   pub counted : o.waiting ≡ left_all o.frames
   pub each : EachWaits o.frames
-  pub waiting : o.waiting ≤ 1024
+  pub waiting : o.waiting ≤ outbound_size
   pub shared : length o.held ≡ held_by o.frames + o.batch.len
-  pub held : length o.held ≤ 512
+  pub held : length o.held ≤ held_size
   pub size : o.batch.current_size_bytes ≡ payload_sum (open_of o)
   pub encoded : o.batch.encoded_len ≡ batch_length (open_of o)
   -- so that no sum of the batch stops at 2^64 - 1
@@ -89,14 +90,14 @@ records_fit o k = omega (arith, waits_length o.frames k.each, k.counted)
 abbrev pub appended : FrameRecord → ℕ → Outgoing → Outgoing
 appended r n o = record { frames = o.frames ++ r ∷ []; waiting = o.waiting + n; held = o.held; batch = o.batch }
 
-pub push_room : (o : Outgoing) (r : FrameRecord) (n : ℕ) → Sound o → 1 ≤ n → o.waiting + n ≤ 1024 → push r n o ≡ appended r n o
+pub push_room : (o : Outgoing) (r : FrameRecord) (n : ℕ) → Sound o → 1 ≤ n → o.waiting + n ≤ outbound_size → push r n o ≡ appended r n o
 push_room o r n k some room =
-    let fits : length o.frames < 1024 = omega (arith, records_fit o k) in
+    let fits : length o.frames < outbound_size = omega (arith, records_fit o k) in
     let sum : add_sat o.waiting n ≡ o.waiting + n = omega arith in
-    rw (lt-ltb (length o.frames) 1024 fits, sum)
+    rw (lt-ltb (length o.frames) outbound_size fits, sum)
 
 -- a record that holds no message
-pub append_sound : (o : Outgoing) (r : FrameRecord) (n : ℕ) → Sound o → left r.kind ≡ n → holds r.kind ≡ 0 → 1 ≤ n → o.waiting + n ≤ 1024
+pub append_sound : (o : Outgoing) (r : FrameRecord) (n : ℕ) → Sound o → left r.kind ≡ n → holds r.kind ≡ 0 → 1 ≤ n → o.waiting + n ≤ outbound_size
     → Sound (appended r n o)
 append_sound o r n k e none some room =
     record {
@@ -112,7 +113,7 @@ append_sound o r n k e none some room =
     }
 
 -- the open batch becomes a frame
-pub flush_sound : (o : Outgoing) (t : ProducerSettings) (time : ℕ) → Sound o → o.waiting + 1 ≤ 1024
+pub flush_sound : (o : Outgoing) (t : ProducerSettings) (time : ℕ) → Sound o → o.waiting + 1 ≤ outbound_size
     → Sound (with_batch empty_batch (appended (batch_record t time o.batch) 1 o))
 unfolding batch_length
 flush_sound o t time k room =
@@ -143,12 +144,12 @@ unfolding batch_length
 length_snoc [] m = omega arith
 length_snoc (x ∷ ms) m = omega (arith, length_snoc ms m)
 
-pub join_sound : (o : Outgoing) (m : OutgoingMessage) (id now : ℕ) → Sound o → length o.held < 512 → WithinBounds (single_of m)
+pub join_sound : (o : Outgoing) (m : OutgoingMessage) (id now : ℕ) → Sound o → length o.held < held_size → WithinBounds (single_of m)
     → Sound (joined_to (single_of m) (grown m id now o.batch) o)
 join_sound o m id now k room s =
     let b = o.batch in
     let x = single_of m in
-    let few : b.len ≤ 512 = omega (arith, k.shared) in
+    let few : b.len ≤ held_size = omega (arith, k.shared) in
     let short = item_short x s in
     let one : add_sat b.len 1 ≡ b.len + 1 = omega arith in
     let size : add_sat b.current_size_bytes m.payload.len ≡ b.current_size_bytes + m.payload.len = omega (arith, k.size_low, s.payload) in

@@ -15,6 +15,7 @@ use Rattle.queue.specs.Settings as settings
 use Rattle.queue.specs.Ids.{published, set_initial_sequence_id}
 use Rattle.queue.specs.Batch.{is_empty, flushed, too_many, flush_batch}
 use Rattle.queue.specs.Frame.{Frame}
+use Rattle.queue.specs.Sizes.{outbound_size, pending_size}
 use Rattle.queue.specs.Take.{next_outbound_frame}
 use Rattle.queue.specs.Settle.{settle, settled, answerable, found, apply_receipt, apply_send_error, due_count, drain_timed_out_sends}
 use Rattle.queue.specs.Tables.{drain_pending_sends, batched_of, framed_of, snapshot_pending_sends, all_well_formed, frames_for, replay_snapshots, unborne, replay_pending_outbound}
@@ -90,7 +91,7 @@ module _ (store : List ℕ) (q : Queue) (took : List Frame) (acc : List Message)
       (λ x. pick_ind P q.settings.switches.closed _ _ (λ y. quiet (flush time) _ tt stay)
       (λ y. pick_ind P (too_many 1 q) _ _ (λ z. quiet (flush time) _ tt stay)
       (λ z. plain_keeps store q (flush time) took acc all _ tt
-      (rw (append-nil took, append-nil acc) (flush_if_holds store q took acc all k w true time (ltb-false 1024 (q.out.waiting + 1) z))))))
+      (rw (append-nil took, append-nil acc) (flush_if_holds store q took acc all k w true time (ltb-false outbound_size (q.out.waiting + 1) z))))))
   step_holds (take room) is64 covered = take_holds room k.groups refl
   step_holds (receipt id message_id) is64 covered =
       quiet (receipt id message_id) _ tt (settle_holds id (λ (op : OpSend). (op, of_receipt message_id)) (λ (p : Queue). with_ids (published id p.ids) p) (λ p. refl) (λ p. refl) (answerable id q.pending) (found id q.pending))
@@ -117,7 +118,7 @@ module _ (store : List ℕ) (q : Queue) (took : List Frame) (acc : List Message)
   step_holds (replay l) is64 covered =
       let P : Outcome (Unit {0}) → Type 0 = λ r. Refused r.1 → Keeps store q (replay l) took acc all r in
       pick_ind P (not (all_well_formed l)) _ _ (λ x h. quiet (replay l) _ tt stay)
-      (λ x. pick_ind P (ltb 256 (length l + length q.pending)) _ _ (λ y h. quiet (replay l) _ tt stay)
+      (λ x. pick_ind P (ltb pending_size (length l + length q.pending)) _ _ (λ y h. quiet (replay l) _ tt stay)
       (λ y. pick_ind P (too_many (frames_for l) q) _ _ (λ z h. quiet (replay l) _ tt stay) (λ z h. absurd h))) covered
   step_holds resend is64 covered =
       quiet resend _ tt (refused_holds (too_many (frames_for (unborne q.out.frames q.pending)) q) 4 _ _ covered)

@@ -10,10 +10,11 @@ use Rattle.wire.proofs.Writes.{Going, going_lent_room, going_lent, going_end, sa
 use Rattle.frames.proofs.Batches.{held_length, held_next, held_in_lem}
 use native.Mathlib.Omega.{arith}
 use Rattle.frames.proofs.held.Held.put.Goals as goal
+use Rattle.queue.specs.Sizes.{held_size}
 
 -- a slot of the same place
-on_to : (h : ℕ) {at i j : ℕ} → at ≡ slot 512 h i → i ≡ j → at ≡ slot 512 h j
-on_to h e same_place = e ∙ ap (slot 512 h) same_place
+on_to : (h : ℕ) {at i j : ℕ} → at ≡ slot held_size h i → i ≡ j → at ≡ slot held_size h j
+on_to h e same_place = e ∙ ap (slot held_size h) same_place
 
 pub put_item-to-requires : goal.put_item-to-requires
 put_item-to-requires c =
@@ -21,8 +22,8 @@ put_item-to-requires c =
     let s = a.self in
     let l = c.loop-i in
     let ms = held_of s in
-    let here : l.i < min s.ring.len 512 = omega arith in
-    let at : c.slot.result ≡ slot 512 s.ring.head l.i = on_to s.ring.head c.slot.ensures (omega arith) in
+    let here : l.i < min s.ring.len held_size = omega arith in
+    let at : c.slot.result ≡ slot held_size s.ring.head l.i = on_to s.ring.head c.slot.ensures (omega arith) in
     let g = subst (λ (todo : List ℕ). Going (batch_payload a.store.now ms) todo a.out.now l.out l.to) (held_next s.messages.now s.full s.ring.head s.ring.len a.store.now l.i _ _ at here) l.invariant.1 in
     (held_in_lem s.messages.now s.full s.ring.head s.ring.len a.store.now l.i _ _ at here c.requires.0, going_lent_room (batch_payload a.store.now (drop (l.i + 1) ms)) g c.requires.1)
 
@@ -32,8 +33,8 @@ loop-i-preserved c =
     let s = a.self in
     let l = c.loop-i in
     let ms = held_of s in
-    let here : l.i < min s.ring.len 512 = omega arith in
-    let at : c.slot.result ≡ slot 512 s.ring.head l.i = on_to s.ring.head c.slot.ensures (omega arith) in
+    let here : l.i < min s.ring.len held_size = omega arith in
+    let at : c.slot.result ≡ slot held_size s.ring.head l.i = on_to s.ring.head c.slot.ensures (omega arith) in
     let g = subst (λ (todo : List ℕ). Going (batch_payload a.store.now ms) todo a.out.now l.out l.to) (held_next s.messages.now s.full s.ring.head s.ring.len a.store.now l.i _ _ at here) l.invariant.1 in
     let then = going_lent g c.put_item-to.ensures in
     (omega arith, then, same then.sofar)

@@ -4,13 +4,14 @@ use Rattle.frames.specs.Held.{held_of}
 use Rattle.frames.specs.Span.{with_item}
 use Rattle.frames.proofs.Batches.{spans_step, spans_stop, spans_all, held_length, held_at}
 use Rattle.frames.proofs.held.Held.span.Goals as goal
+use Rattle.queue.specs.Sizes.{held_size}
 
 pub loop-i-preserved : goal.loop-i-preserved
 loop-i-preserved c =
     let a = c.args in
     let s = a.self in
     let l = c.loop-i in
-    let here : l.i < min s.ring.len 512 = omega arith in
+    let here : l.i < min s.ring.len held_size = omega arith in
     let long = held_length s.messages.now s.full s.ring.head s.ring.len in (
       omega arith,
       spans_step a.n (held_of s) l.span l.i _ (omega (arith, long)) l.invariant.1 _
@@ -22,7 +23,7 @@ returns-in_err-span c =
     let a = c.args in
     let s = a.self in
     let l = c.loop-i in
-    let here : l.i < min s.ring.len 512 = omega arith in
+    let here : l.i < min s.ring.len held_size = omega arith in
     let long = held_length s.messages.now s.full s.ring.head s.ring.len in
     c.from_residual.ensures
     ∙ spans_stop a.n (held_of s) l.span l.i _ (omega (arith, long)) l.invariant.1

@@ -3,7 +3,8 @@ use Prim.Native.Nat.{◌≤◌, min}
 use Rattle.frames.specs.Held.{held_of}
 use Rattle.frames.proofs.Batches.{Spans}
 use Rattle.frames.proofs.held.Held.span.Given as goal
+use Rattle.queue.specs.Sizes.{held_size}
 
 abbrev pub invariant-loop-i : goal.invariant-loop-i
 invariant-loop-i l =
-    (l.i ≤ min l.self.ring.len 512) × Spans l.n (held_of l.self) l.span l.i
+    (l.i ≤ min l.self.ring.len held_size) × Spans l.n (held_of l.self) l.span l.i

@@ -6,6 +6,7 @@ use Rattle.types.specs.declared.error.ProducerError.TheVariants.{OutboundFull, H
 use Rattle.types.specs.declared.message.OutgoingMessage.{OutgoingMessage}
 use Rattle.types.specs.declared.way.Way.{Way}
 use Rattle.queue.specs.Send.{way_of, pushes, joins, is_too_large}
+use Rattle.queue.specs.Sizes.{outbound_size, held_size, pending_size}
 use Rattle.plans.specs.declared.state.Core.{Core}
 use Rattle.plans.specs.Choose.{allowed_way, chosen_within}
 use Rattle.plans.proofs.state.Core.choose_within.Goals as goal
@@ -13,13 +14,13 @@ use Rattle.plans.proofs.state.Core.choose_within.Goals as goal
 module _ (m : OutgoingMessage) (c : Core) {w : Way} (e : w ≡ way_of c.settings m c.batch) where
   -- by the tests, each as the code has it and with what it gave
   by : {n : ℕ} {r4 r5 r7 b4 b5 b7 : Bool} → n ≡ pushes w
-      → r4 ≡ ltb 1024 (c.rings.waiting + n) → r4 ≡ b4
-      → r5 ≡ joins w && leb 512 (min c.rings.held.len 512) → r5 ≡ b5
-      → r7 ≡ not (is_too_large w) && leb 256 (min c.rings.pending.len 256) → r7 ≡ b7
+      → r4 ≡ ltb outbound_size (c.rings.waiting + n) → r4 ≡ b4
+      → r5 ≡ joins w && leb held_size (min c.rings.held.len held_size) → r5 ≡ b5
+      → r7 ≡ not (is_too_large w) && leb pending_size (min c.rings.pending.len pending_size) → r7 ≡ b7
       → pick b4 (Err OutboundFull) (pick b5 (Err HeldFull) (pick b7 (Err PendingFull) (Ok w))) ≡ chosen_within m c
   unfolding chosen_within
   by en q4 e4 q5 e5 q7 e7 =
-      let f4 = ap (λ (k : ℕ). ltb 1024 (c.rings.waiting + k)) (sym en) ∙ sym q4 ∙ e4 in
+      let f4 = ap (λ (k : ℕ). ltb outbound_size (c.rings.waiting + k)) (sym en) ∙ sym q4 ∙ e4 in
       let f5 = sym q5 ∙ e5 in
       let f7 = sym q7 ∙ e7 in
       sym (λ i. pick (f4 i) (Err OutboundFull) (pick (f5 i) (Err HeldFull) (pick (f7 i) (Err PendingFull) (Ok w))))

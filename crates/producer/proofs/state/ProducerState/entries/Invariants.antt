@@ -3,6 +3,7 @@ use Rattle.std.proofs.Common.{min}
 use Rattle.producer.specs.View.{view}
 use Rattle.producer.proofs.Listed.{Listing}
 use Rattle.producer.proofs.state.ProducerState.entries.Given as goal
+use Rattle.queue.specs.Sizes.{pending_size}
 
 abbrev pub invariant-loop-i : goal.invariant-loop-i
-invariant-loop-i l = Listing 256 (min l.self.core.rings.pending.len 256) (view l.self).pending l.items l.i
+invariant-loop-i l = Listing pending_size (min l.self.core.rings.pending.len pending_size) (view l.self).pending l.items l.i

@@ -7,6 +7,7 @@ use Rattle.tables.proofs.Turns.{kept_kind}
 use Rattle.producer.specs.View.{view}
 use Rattle.producer.proofs.Listed.{all_pending}
 use Rattle.producer.proofs.state.ProducerState.of_kind.Goals as goal
+use Rattle.queue.specs.Sizes.{pending_size}
 
 pub returns : goal.returns
 returns c =
@@ -14,5 +15,5 @@ returns c =
     let b = c.args.batched in
     let e = c.as_slice.ensures ∙ c.entries-pending.ensures.same in
     subst (λ (l : List OpSend). Lists l c.picked.result)
-    (ap (λ (l : List OpSend). keeping (is_kind b) (take 256 l)) e ∙ ap (keeping (is_kind b)) (all_pending s) ∙ kept_kind b (view s).pending)
+    (ap (λ (l : List OpSend). keeping (is_kind b) (take pending_size l)) e ∙ ap (keeping (is_kind b)) (all_pending s) ∙ kept_kind b (view s).pending)
     c.picked.ensures

@@ -5,6 +5,7 @@ use Rattle.std.proofs.lemmas.Result.{err_from_is_err_and}
 use Rattle.laws.specs.Lists.{front_all}
 use Rattle.types.specs.declared.error.ProducerError.{ProducerError}
 use Rattle.queue.specs.Queue.{Queue, done, with_out, with_pending}
+use Rattle.queue.specs.Sizes.{pending_size}
 use Rattle.queue.specs.Tables.{fronted, mark}
 use Rattle.plans.specs.Replay.{replay_answer}
 use Rattle.producer.specs.View.{view}
@@ -17,7 +18,7 @@ unfolding view
 front_frames-requires c =
     let s = c.args.self.now in
     let waits : Queue → Type 0 = λ q. q.out.waiting < 2 ^ 64 in
-    let entries : Queue → Queue = λ q. with_pending (front_all 256 (map mark c.args.table.now) q.pending) q in
+    let entries : Queue → Queue = λ q. with_pending (front_all pending_size (map mark c.args.table.now) q.pending) q in
     subst waits (sym (c.front_entries.ensures ∙ ap entries c.mark_all.ensures)) (waiting_few s _ _ _ c.in_ok-replay_answer.ensures)
 
 pub returns-clause-meets : goal.returns-clause-meets
@@ -29,7 +30,7 @@ returns-clause-meets c =
     let stored =
     c.front_frames.ensures
     ∙ ap (λ (q : Queue). with_out (fronted l q.out) q)
-    (c.front_entries.ensures ∙ ap (λ (q : Queue). with_pending (front_all 256 (map mark l) q.pending) q) c.mark_all.ensures) in
+    (c.front_entries.ensures ∙ ap (λ (q : Queue). with_pending (front_all pending_size (map mark l) q.pending) q) c.mark_all.ensures) in
     ap (λ (q : Queue). (q, done tt)) stored
     ∙ ap (λ (r : Result (Unit {0}) ProducerError). ends_as r (view s) (replayed s l)) planned
     ∙ replays s f l

@@ -7,6 +7,7 @@ use Rattle.laws.specs.Lists.{without}
 use Rattle.laws.specs.Ring.{ring}
 use Rattle.types.specs.declared.error.ProducerError.TheVariants.{NotAnswerable}
 use Rattle.queue.specs.Queue.{Queue, with_pending}
+use Rattle.queue.specs.Sizes.{pending_size}
 use Rattle.upkeep.specs.Pending.{keys, located}
 use Rattle.producer.specs.View.{view}
 use Rattle.producer.specs.Settle.{key_of, settles_at}
@@ -24,11 +25,11 @@ in_range : (s : ProducerState) → Full s → (id : ℕ) (r : Option ℕ) → r 
 in_range s f id r e i at =
     let b : i < length (map key_of (view s).pending) = located_below id (map key_of (view s).pending) i (sym e ∙ at) in
     let l : length (map key_of (view s).pending) ≡ length (view s).pending = length-map (view s).pending key_of in
-    let m : length (view s).pending ≡ min s.core.rings.pending.len 256 = length_view s f in
+    let m : length (view s).pending ≡ min s.core.rings.pending.len pending_size = length_view s f in
     record { listed = omega arith }
 
 -- what is searched are the keys of the pending entries
-placed : (s : ProducerState) → Full s → (id : ℕ) (r : Option ℕ) → r ≡ located id (ring 256 (keys s.pending_ids s.pending_marks) s.core.rings.pending.head s.core.rings.pending.len)
+placed : (s : ProducerState) → Full s → (id : ℕ) (r : Option ℕ) → r ≡ located id (ring pending_size (keys s.pending_ids s.pending_marks) s.core.rings.pending.head s.core.rings.pending.len)
     → r ≡ located id (map key_of (view s).pending)
 placed s f id r e = e ∙ ap (located id) (sym (keys_view s f))
 

@@ -6,13 +6,14 @@ use Rattle.producer.specs.View.{view}
 use Rattle.producer.proofs.Borne.{few_names, length_names, name_there}
 use Rattle.producer.proofs.Listed.{listing_step, listing_all}
 use Rattle.producer.proofs.state.ProducerState.waiting_ids.Goals as goal
+use Rattle.queue.specs.Sizes.{outbound_size}
 
 pub loop-i-preserved : goal.loop-i-preserved
 loop-i-preserved c =
     let s = c.args.self.now in
     let k = c.loop-i in
     let e = length_names s (omega arith) in
-    listing_step 1024 _ _ k.items k.i k.invariant _ (omega arith) (omega (arith, e)) (omega (arith, c.count-len.ensures))
+    listing_step outbound_size _ _ k.items k.i k.invariant _ (omega arith) (omega (arith, e)) (omega (arith, c.count-len.ensures))
     (name_there s (omega arith) k.i _ _ c.slot.ensures (omega (arith, c.count-len.ensures)))
 
 pub returns : goal.returns
@@ -20,4 +21,4 @@ returns c =
     let s = c.args.self.now in
     let k = c.loop-i in
     listed (map frame_id (view s).out.frames) _ (omega (arith, c.count-len.ensures, k.invariant.len))
-    (rw c.count-len.ensures (listing_all 1024 _ _ k.items k.i k.invariant (omega (arith, c.count-len.ensures)) (few_names s)))
+    (rw c.count-len.ensures (listing_all outbound_size _ _ k.items k.i k.invariant (omega (arith, c.count-len.ensures)) (few_names s)))

@@ -2,7 +2,8 @@
 use Rattle.laws.proofs.Loops.{Missed}
 use Rattle.upkeep.specs.Pending.{keys, wanted}
 use Rattle.upkeep.proofs.pending.Index.find.Given as goal
+use Rattle.queue.specs.Sizes.{pending_size}
 
 abbrev pub invariant-loop-i : goal.invariant-loop-i
 invariant-loop-i l =
-    Missed 256 (wanted l.id.0 l.any) (keys l.self.ids.now l.self.marks.now) l.self.ring.head l.self.ring.len l.i
+    Missed pending_size (wanted l.id.0 l.any) (keys l.self.ids.now l.self.marks.now) l.self.ring.head l.self.ring.len l.i
