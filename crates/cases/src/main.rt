@@ -12,7 +12,7 @@ use types::error::ProducerError;
 use types::message::{Part, SingleMessage};
 use types::signed::{saturating_sub_one, signed_of};
 use types::time::deadline_with_clamp;
-use types::types::{MessageId, MessageIdData};
+use types::types::{MessageId, MessageIdData, SequenceId};
 use wire::batch::put_item;
 use wire::single::put_single;
 
@@ -20,8 +20,8 @@ fn deadline(rt: &impl Print, name: &str, base: u64, delta: u64) -> io::Result<()
     println!(rt; "{name} {}", deadline_with_clamp(base, delta))
 }
 
-fn before_next(rt: &impl Print, name: &str, next: u64) -> io::Result<()> {
-    println!(rt; "{name} {}", saturating_sub_one(signed_of(next)))
+fn before_next(rt: &impl Print, name: &str, next: SequenceId) -> io::Result<()> {
+    println!(rt; "{name} {}", saturating_sub_one(signed_of(next.0)))
 }
 
 fn message_id(rt: &impl Print, name: &str, id: Option<MessageIdData>) -> io::Result<()> {
@@ -116,7 +116,7 @@ fn main(rt: HostRuntime) -> io::Result<()> {
     message_id(&rt, "I1", Some(id))?;
     message_id(&rt, "I2", None)?;
     for (name, next) in [("S1", 1), ("S2", 0x8000_0000_0000_0000), ("S3", u64::MAX)] {
-        before_next(&rt, name, next)?;
+        before_next(&rt, name, SequenceId(next))?;
     }
     quote(&rt)?;
     sends::joins_and_is_flushed(&rt)?;

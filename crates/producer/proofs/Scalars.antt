@@ -2,6 +2,7 @@
 use Rattle.std.specs.Prelude.{Err, Ok, Result}
 use Rattle.std.proofs.Common.{◌≡◌, ℕ, Bool, true, false, leb, List, length, refl}
 use Rattle.laws.specs.Choice.{pick}
+use Rattle.types.specs.Bounds.{longest_name}
 use Rattle.types.specs.declared.settings.Setting.{Setting}
 use Rattle.queue.specs.Queue.{Outcome, done, refuse, with_settings}
 use Rattle.queue.specs.Settings.{allowed, changed, set, set_name, name_from, with_name, close}
@@ -38,7 +39,7 @@ module _ (s : ProducerState) where
 
   pub names : (name : List ℕ) → Sets (changed_by (name_planned name s.core) s) (set_name name (view s))
   unfolding set_name view
-  names name = go (leb (length name) 64)
+  names name = go (leb (length name) longest_name)
     where
       go : (b : Bool)
           → Sets (changed_by (pick b (Ok (core_settings (with_name (name_from name) s.core.settings) s.core)) (Err SettingOverBound)) s)

@@ -8,6 +8,7 @@ use Rattle.laws.specs.Numbers.{add_sat}
 use Rattle.laws.specs.Ring.{ring, slot}
 use Rattle.laws.proofs.Choice.{pick_true, pick_false, differ, false_true}
 use Rattle.laws.proofs.Rings.{length_ring, ring_set, ring_take, ring_drop, ring_drops, ring_pop, ring_none}
+use Rattle.types.specs.Bounds.{longest_name}
 use Rattle.types.specs.declared.error.ProducerError.TheVariants.{NoFrame, PartOutside, TooShort}
 use Rattle.types.specs.declared.frame.BatchFrame.{BatchFrame}
 use Rattle.types.specs.declared.frame.FrameRecord.{FrameRecord}
@@ -104,7 +105,7 @@ err_planned c r count (Err x) f e = let same : x ≡ f = cc in ap Err same
 
 -- what a frame's name says
 clip : (n : ProducerName) → name_of (clipped n) ≡ name_of n
-clip n = let e : min (min n.len 64) 64 ≡ min n.len 64 = omega arith in ap (λ (k : ℕ). take k n.bytes) e
+clip n = let e : min (min n.len longest_name) longest_name ≡ min n.len longest_name = omega arith in ap (λ (k : ℕ). take k n.bytes) e
 
 name_if : (store : List ℕ) (b : Bool) (own : Part) (producer : ProducerName)
     → name_told store (pick b (Producer (clipped producer)) (Own own)) ≡ pick b (name_of producer) (part_of store own)

@@ -5,10 +5,10 @@ ghost use Rattle.producer.specs.View.{view};
 
 use plans::state::Core;
 use rules::batch::single_of;
-use rules::blank::{no_message, no_publish};
+use rules::blank::{no_frame, no_message, no_publish};
 use rules::rings::Rings;
 use types::entry::Publish;
-use types::frame::{FrameKind, FrameRecord, ProducerName};
+use types::frame::FrameRecord;
 use types::message::SingleMessage;
 use types::types::{ProducerHandle, SequenceId};
 
@@ -30,17 +30,9 @@ impl ProducerState {
     pub fn new(handle: ProducerHandle) -> ProducerState
         ensures { view result ≡ new_queue handle }
     {
-        let frame = FrameRecord {
-            sequence_id: SequenceId(0),
-            publish_time: 0,
-            producer_name: ProducerName::empty(),
-            uuid: [0; 16],
-            message: no_message(),
-            kind: FrameKind::Single,
-        };
         ProducerState {
             core: Core::new(handle),
-            outbound: [frame; Rings::OUTBOUND],
+            outbound: [no_frame(); Rings::OUTBOUND],
             held: [single_of(no_message()); Rings::HELD],
             pending: [no_publish(); Rings::PENDING],
             pending_ids: [SequenceId(0); Rings::PENDING],

@@ -9,6 +9,7 @@ use lib.ListN.{length, take, drop, length-take}
 use lib.Seq.{take-add, drop-drop}
 use lib.Dec.{ltb}
 use borrow.Author.Tests.{ltb-true, ne_eqb}
+use Rattle.types.specs.Bounds.{longest_payload}
 use Rattle.types.specs.Values.{part_of}
 use Rattle.types.specs.declared.frame.ChunkedMessageContext.{ChunkedMessageContext}
 use Rattle.types.specs.declared.frame.FrameRecord.{FrameRecord}
@@ -49,7 +50,7 @@ module _ (len size : ℕ) (h : 1 ≤ size) where
       omega (arith, suc-mul d size)
 
   -- the count does not stop at 2^31 - 1
-  count_is : len ≤ 16777216 → total_chunks len size ≡ max rounded 1
+  count_is : len ≤ longest_payload → total_chunks len size ≡ max rounded 1
   unfolding rounded
   count_is short =
       let f : (len + (size - 1)) / size ≤ len + 1 = few rounded over divides in
@@ -65,7 +66,7 @@ module _ (len size : ℕ) (h : 1 ≤ size) where
       let c : suc k * size ≤ suc d * size = mul-le-mul_right size (omega arith) in
       omega (arith, suc-mul k size)
 
-  pub cut_holds : len ≤ 16777216 → Cut len size (total_chunks len size)
+  pub cut_holds : len ≤ longest_payload → Cut len size (total_chunks len size)
   cut_holds short =
       rw (count_is short)
       (record { covers = covered rounded over divides over_low; within = inner rounded over divides over_low })

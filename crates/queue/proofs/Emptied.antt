@@ -8,6 +8,7 @@ use native.Mathlib.Omega.{arith}
 use lib.ListN.{length, take as firsts}
 use lib.Dec.{ltb, leb}
 use Rattle.laws.specs.Choice.{pick}
+use Rattle.types.specs.Bounds.{longest_name}
 use Rattle.types.specs.declared.entry.OpSend.{OpSend}
 use Rattle.types.specs.declared.frame.FrameRecord.{FrameRecord}
 use Rattle.types.specs.declared.way.Way.{Way}
@@ -104,7 +105,7 @@ module _ (store : List ℕ) (q : Queue) (k : Well q) where
   step_len (initial_id n) = record { len = refl }
   step_len (set s) = pick_ind (Leaves q (set s)) (settings.allowed s) _ _ (λ x. record { len = refl }) (λ x. record { len = refl })
   step_len (set_name bytes) =
-      pick_ind (Leaves q (set_name bytes)) (leb (length bytes) 64) _ _ (λ x. record { len = refl }) (λ x. record { len = refl })
+      pick_ind (Leaves q (set_name bytes)) (leb (length bytes) longest_name) _ _ (λ x. record { len = refl }) (λ x. record { len = refl })
   step_len close = record { len = refl }
   step_len (query x) = record { len = refl }
   step_len (drain room) = table_len (drain room) (ltb room (length q.pending)) (with_out empty_outgoing (with_pending [] q)) _ refl refl refl

@@ -12,6 +12,7 @@ use lib.Dec.{ltb, leb, eqb}
 use borrow.Author.Tests.{leb-true, ltb-true, eqb-true, not-false}
 use Rattle.laws.specs.Numbers.{add_sat}
 use Rattle.laws.specs.Lists.{onto, front_all}
+use Rattle.types.specs.Bounds.{longest_payload, longest_name}
 use Rattle.types.specs.Ids.{of_receipt}
 use Rattle.types.specs.declared.batch.BatchContainer.{BatchContainer}
 use Rattle.types.specs.declared.entry.OpSend.{OpSend}
@@ -157,7 +158,7 @@ unfolding flushed
 left_is m true time q = refl
 left_is m false time q = refl
 
-follow_fits : (a : Sending) (w : Way) (q : Queue) → Fits q → IsI32 a.message.num_messages → a.message.payload.len ≤ 16777216
+follow_fits : (a : Sending) (w : Way) (q : Queue) → Fits q → IsI32 a.message.num_messages → a.message.payload.len ≤ longest_payload
     → FitsWay (λ flush. (left_of q.settings a.message flush q.out.batch).len) w → Fits (follow a w q)
 unfolding follow add_to_batch emit_single emit_chunked
 follow_fits a (way.TooLarge before) q k is32 short r = flush_fits before a.publish_time q k
@@ -214,7 +215,7 @@ rest_fits r (Chunked c) rs h k =
     (λ e. k)
 
 -- an entry that 12 takes
-entry_fits : (m : OutgoingMessage) (r : Replay) → has_chunk_count m.payload.len r ≡ true → m.payload.len ≤ 16777216 → IsI32 m.num_messages
+entry_fits : (m : OutgoingMessage) (r : Replay) → has_chunk_count m.payload.len r ≡ true → m.payload.len ≤ longest_payload → IsI32 m.num_messages
     → FitsAs m (kind_again r)
 entry_fits m replays.Batched h short is32 = is32
 entry_fits m replays.Single h short is32 = is32
@@ -297,7 +298,7 @@ module _ (store : List ℕ) (q : Queue) (k : Fits q) where
       (λ e. record { frames = k.frames; pending = k.pending; batch = k.batch; limit = limit_kept s q.settings k.limit e })
       (λ x. k)
   step_fits (set_name bytes) is32 =
-      pick_ind (λ (x : Outcome (Unit {0})). Fits x.0) (leb (length bytes) 64) _ _
+      pick_ind (λ (x : Outcome (Unit {0})). Fits x.0) (leb (length bytes) longest_name) _ _
       (λ x. record { frames = k.frames; pending = k.pending; batch = k.batch; limit = k.limit })
       (λ x. k)
   step_fits close is32 = record { frames = k.frames; pending = k.pending; batch = k.batch; limit = k.limit }

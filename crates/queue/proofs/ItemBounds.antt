@@ -6,6 +6,7 @@ use mathlib.Core.Bool.{true, ◌&&◌}
 use native.Mathlib.Omega.{arith}
 use lib.Dec.{leb}
 use borrow.Author.Tests.{leb-true}
+use Rattle.types.specs.Bounds.{longest_payload, longest_key, longest_name}
 use Rattle.types.specs.MemoryLimit.{reservable}
 use Rattle.types.specs.Values.{up_to}
 use Rattle.types.specs.declared.message.OutgoingMessage.{OutgoingMessage}
@@ -16,16 +17,16 @@ use Rattle.queue.specs.Run.{Is64}
 use Rattle.laws.proofs.Choice.{and_left, and_right}
 use Rattle.types.specs.declared.message.Part.{Part}
 
-part_within : (x : Option Part) → up_to 1024 x ≡ true → len_of x ≤ 1024
+part_within : (x : Option Part) → up_to longest_key x ≡ true → len_of x ≤ longest_key
 part_within None h = omega arith
-part_within (Some p) h = leb-true p.len 1024 h
+part_within (Some p) h = leb-true p.len longest_key h
 
 number_within : (x : Option ℕ) → Is64 x → unwrap_or x 0 < 2 ^ 64
 number_within None h = omega arith
 number_within (Some n) h = h
 
-pub payload_within : (m : OutgoingMessage) (reserved : ℕ) → within_bounds m reserved ≡ true → m.payload.len ≤ 16777216
-payload_within m reserved h = leb-true m.payload.len 16777216 (and_left _ _ (and_left _ _ (and_left _ _ (and_left _ _ (and_left _ _ h)))))
+pub payload_within : (m : OutgoingMessage) (reserved : ℕ) → within_bounds m reserved ≡ true → m.payload.len ≤ longest_payload
+payload_within m reserved h = leb-true m.payload.len longest_payload (and_left _ _ (and_left _ _ (and_left _ _ (and_left _ _ (and_left _ _ h)))))
 
 -- a send that refusal 3 lets through
 pub record Sendable (a : Sending) : Type 0 where
@@ -35,11 +36,11 @@ pub record Sendable (a : Sending) : Type 0 where
 pub sendable : (s : Sending) → within_bounds s.message s.reserved ≡ true → Is64 s.message.event_time → Sendable s
 sendable s h is64 =
     let m = s.message in
-    let a = leb m.payload.len 16777216 in
-    let b = up_to 1024 m.partition_key in
-    let c = up_to 1024 m.ordering_key in
-    let d = up_to 1024 m.schema_version in
-    let e = leb m.producer_name.len 64 in
+    let a = leb m.payload.len longest_payload in
+    let b = up_to longest_key m.partition_key in
+    let c = up_to longest_key m.ordering_key in
+    let d = up_to longest_key m.schema_version in
+    let e = leb m.producer_name.len longest_name in
     let abc : (a && b && c) ≡ true =
     and_left (a && b && c) d (and_left (a && b && c && d) e (and_left (a && b && c && d && e) (reservable s.reserved) h)) in
     let ab : (a && b) ≡ true = and_left (a && b) c abc in

@@ -9,6 +9,7 @@ use lib.ListN.{length, take as firsts, drop as lasts, length-append, length-map}
 use lib.Dec.{ltb, leb, eqb}
 use borrow.Author.Tests.{ltb-false, leb-false, not-false}
 use Rattle.laws.specs.Numbers.{add_sat}
+use Rattle.types.specs.Bounds.{longest_name}
 use Rattle.types.specs.declared.batch.BatchContainer.{BatchContainer}
 use Rattle.types.specs.declared.entry.OpSend.{OpSend}
 use Rattle.types.specs.declared.frame.FrameRecord.{FrameRecord}
@@ -205,7 +206,7 @@ module _ (store : List ℕ) (q : Queue) (k : Well q) where
   step_well (set s) is64 =
       pick_ind (λ (x : Outcome (Unit {0})). Well x.0) (settings.allowed s) _ _ (λ x. record { out = k.out; pending = k.pending }) (λ x. k)
   step_well (set_name bytes) is64 =
-      pick_ind (λ (x : Outcome (Unit {0})). Well x.0) (leb (length bytes) 64) _ _ (λ x. record { out = k.out; pending = k.pending }) (λ x. k)
+      pick_ind (λ (x : Outcome (Unit {0})). Well x.0) (leb (length bytes) longest_name) _ _ (λ x. record { out = k.out; pending = k.pending }) (λ x. k)
   step_well close is64 = record { out = k.out; pending = k.pending }
   step_well (query x) is64 = k
   step_well (drain room) is64 =

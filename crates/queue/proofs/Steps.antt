@@ -8,6 +8,7 @@ use lib.ListN.{length, take as firsts}
 use lib.Dec.{ltb, leb}
 use borrow.Author.Tests.{ltb-false}
 use Rattle.laws.specs.Choice.{pick}
+use Rattle.types.specs.Bounds.{longest_name}
 use Rattle.types.specs.declared.entry.OpSend.{OpSend}
 use Rattle.queue.specs.Queue.{Queue, Outcome, done, refuse, with_pending, with_ids}
 use Rattle.types.specs.Ids.{of_receipt}
@@ -106,7 +107,7 @@ module _ (store : List ℕ) (q : Queue) (took : List Frame) (acc : List Message)
   step_holds (set x) is64 covered =
       pick_ind (Keeps store q (set x) took acc all) (settings.allowed x) _ _ (λ y. quiet (set x) _ tt stay) (λ y. quiet (set x) _ tt stay)
   step_holds (set_name bytes) is64 covered =
-      pick_ind (Keeps store q (set_name bytes) took acc all) (leb (length bytes) 64) _ _
+      pick_ind (Keeps store q (set_name bytes) took acc all) (leb (length bytes) longest_name) _ _
       (λ y. quiet (set_name bytes) _ tt stay)
       (λ y. quiet (set_name bytes) _ tt stay)
   step_holds close is64 covered = quiet close _ tt stay

@@ -1,5 +1,6 @@
 -- The send queue of a producer over plain lists, a new one, and what a call answers.
 use Rattle.std.specs.Prelude.{ℕ, false, List, [], negsuc, None}
+use Rattle.types.specs.Bounds.{longest_batch}
 use Rattle.types.specs.Empty.{empty_batch, empty_name}
 use Rattle.types.specs.declared.types.ProducerHandle.{ProducerHandle}
 use Rattle.types.specs.declared.settings.ProducerSettings.{ProducerSettings}
@@ -36,7 +37,7 @@ abbrev pub new_settings : ProducerSettings
 new_settings =
     record {
       name = empty_name;
-      limits = record { max_message_size = 5242880; max_batch_size_bytes = 131072; max_messages_in_batch = 128 };
+      limits = record { max_message_size = 5242880; max_batch_size_bytes = 131072; max_messages_in_batch = longest_batch };
       switches = record { batching_enabled = false; chunking_enabled = false; broker_ready = false; closed = false };
       delays = record { send_timeout = None; batching_max_publish_delay = None };
     }

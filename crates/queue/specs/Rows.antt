@@ -59,22 +59,7 @@ fresh = new_queue (record { 0 = 7 })
 abbrev send_of : ℕ → Sending
 send_of len =
     record {
-      message = record {
-        payload = record { start = 0; len = len };
-        partition_key = no_message.partition_key;
-        ordering_key = no_message.ordering_key;
-        schema_version = no_message.schema_version;
-        producer_name = no_message.producer_name;
-        event_time = no_message.event_time;
-        null_value = no_message.null_value;
-        null_partition_key = no_message.null_partition_key;
-        deliver_at_time = no_message.deliver_at_time;
-        compression = no_message.compression;
-        uncompressed_size = 0;
-        num_messages = pos 1;
-        txn_id = no_message.txn_id;
-        source_message_id = no_message.source_message_id;
-      };
+      message = record no_message { payload = record { start = 0; len = len }; num_messages = pos 1 };
       reserved = 0;
       uuid = no_uuid;
       publish_time = 0;

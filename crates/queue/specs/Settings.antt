@@ -1,7 +1,7 @@
 -- Document 01, 'Who can cause a refusal', setup; and the calls that set the Rust's public settings and close the producer.
 use Rattle.std.specs.Prelude.{ℕ, ◌-◌, Bool, true, List, ◌++◌, length, replicate, leb}
 use Rattle.laws.specs.Choice.{pick}
-use Rattle.types.specs.Bounds.{longest_name}
+use Rattle.types.specs.Bounds.{longest_name, largest_limit, longest_batch}
 use Rattle.types.specs.declared.frame.ProducerName.{ProducerName}
 use Rattle.types.specs.declared.settings.Limits.{Limits}
 use Rattle.types.specs.declared.settings.Switches.{Switches}
@@ -13,9 +13,9 @@ use Rattle.queue.specs.Queue.{Queue, Outcome, done, refuse, with_settings}
 
 -- 8: message limit or batch bytes over 16,777,216, batch count over 128
 abbrev pub allowed : Setting → Bool
-allowed (MaxMessageSize n) = leb n 16777216
-allowed (MaxBatchSizeBytes n) = leb n 16777216
-allowed (MaxMessagesInBatch n) = leb n 128
+allowed (MaxMessageSize n) = leb n largest_limit
+allowed (MaxBatchSizeBytes n) = leb n largest_limit
+allowed (MaxMessagesInBatch n) = leb n longest_batch
 allowed (BatchingEnabled b) = true
 allowed (ChunkingEnabled b) = true
 allowed (SendTimeout d) = true

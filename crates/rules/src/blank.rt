@@ -1,10 +1,10 @@
 // Values that mean nothing: what a slot holds before its first use, and a batch record where a message would stand.
 ghost use Rattle.std.specs.Prelude.{◌≡◌};
 ghost use Rattle.queue.specs.Batch.{no_message};
-ghost use Rattle.rules.specs.Blank.{no_publish, no_entry};
+ghost use Rattle.rules.specs.Blank.{no_publish, no_entry, no_frame};
 
 use types::entry::{OpSend, Publish, Replay};
-use types::frame::ProducerName;
+use types::frame::{FrameKind, FrameRecord, ProducerName};
 use types::memory_limit::MemoryReservation;
 use types::message::{OutgoingMessage, Part};
 use types::types::SequenceId;
@@ -52,5 +52,18 @@ pub fn no_entry() -> OpSend
         sequence_id: SequenceId(0),
         answerable: false,
         publish: no_publish(),
+    }
+}
+
+pub fn no_frame() -> FrameRecord
+    ensures { result ≡ no_frame }
+{
+    FrameRecord {
+        sequence_id: SequenceId(0),
+        publish_time: 0,
+        producer_name: ProducerName::empty(),
+        uuid: [0; 16],
+        message: no_message(),
+        kind: FrameKind::Single,
     }
 }

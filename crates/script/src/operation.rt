@@ -1,11 +1,13 @@
 // The operations of a script: how long each is, whether it is well formed, and the most bytes that its answer can have
 // (docs/SCRIPT.md, 'The script').
-ghost use Rattle.std.specs.Prelude.{◌*◌, ◌<◌, ◌≤◌, IfSome};
+ghost use Rattle.std.specs.Prelude.{◌≡◌, ◌*◌, ◌<◌, ◌≤◌, IfSome};
 ghost use Rattle.script.specs.Calls.{Decodes};
 
 use crate::read::Place;
 use crate::write::{Output, Put};
 use rules::rings::Rings;
+use types::frame::ProducerName;
+use types::message::OutgoingMessage;
 use types::types::ProducerHandle;
 
 // What an operation calls, with its code.
@@ -205,13 +207,20 @@ fn entries_room(count: u64) -> u64
     count.min(Rings::PENDING as u64) * 293
 }
 
+// The most bytes of a frame's answer beside its payload: three parts of at most a key's length, a name, and what has a length of its own.
+fn frame_room() -> u64
+    ensures { result ≡ 3383 }
+{
+    247 + 3 * OutgoingMessage::MAX_KEY as u64 + ProducerName::MAX_LEN as u64
+}
+
 // The most bytes of an answer.
 fn room_of(place: Place, call: Call) -> u64 {
     let arguments = place.behind(1);
     match call {
         Call::QueueSendReserved | Call::QueueSend => 18,
         Call::FlushBatch | Call::ReplayPendingOutbound | Call::OutboundLen => 10,
-        Call::NextOutboundFrame => arguments.get::<u64>().saturating_add(3383),
+        Call::NextOutboundFrame => arguments.get::<u64>().saturating_add(frame_room()),
         Call::ApplyReceipt => 323,
         Call::ApplySendError => 299,
         Call::DrainTimedOutSends => 6 + entries_room(place.behind(9).get::<u32>() as u64),
@@ -223,7 +232,7 @@ fn room_of(place: Place, call: Call) -> u64 {
         Call::NextSendDeadline | Call::NextBatchDeadline => 11,
         Call::BatchDeadlineElapsed | Call::CanAddToBatch => 3,
         Call::Stats => 42,
-        Call::Dump => 75542,
+        Call::Dump => 278 + 294 * Rings::PENDING as u64,
         _ => 2,
     }
 }

@@ -25,15 +25,7 @@ rings_emptied r =
     }
 
 abbrev pub core_emptied : Core → Core
-core_emptied c =
-    record {
-      handle = c.handle;
-      settings = c.settings;
-      ids = c.ids;
-      counters = c.counters;
-      batch = empty_batch;
-      rings = rings_emptied c.rings;
-    }
+core_emptied c = record c { batch = empty_batch; rings = rings_emptied c.rings }
 
 abbrev pub core_after : Option ℕ → ℕ → Core → Core
 core_after None n c = core_emptied c
@@ -41,10 +33,8 @@ core_after (Some time) n c = core_without_front n c
 
 abbrev pub core_snapshot : ℕ → Core → Core
 core_snapshot n c =
-    record {
-      handle = c.handle;
+    record c {
       settings = changed (BrokerReady false) c.settings;
-      ids = c.ids;
       counters = failed n c.counters;
       batch = empty_batch;
       rings = rings_emptied c.rings;

@@ -8,6 +8,7 @@ use native.Mathlib.Omega.{arith}
 use Rattle.std.proofs.lemmas.Grind.{common_steps}
 use lib.ListN.{length, drop, get_or, length-append, length-take, length-map}
 use lib.Seq.{drop-cons}
+use Rattle.types.specs.Bounds.{longest_key}
 use Rattle.types.specs.Values.{bytes_of}
 use Rattle.types.specs.declared.message.SingleMessage.{SingleMessage}
 use Rattle.wire.specs.Proto.{key, varint_field, bytes_field, bool_field, optional, be32}
@@ -41,12 +42,12 @@ module _ (tag : ℕ) (t : tag < 16) where
   maybe_bool_short : (x : Option Bool) → length (optional (bool_field tag) x) ≤ 11
   maybe_bool_short x = grind (arith, common_steps, number_short)
 
-  maybe_bytes_short : (x : Option (List ℕ)) → length (unwrap_or x []) ≤ 1024 → length (optional (bytes_field tag) x) ≤ 1035
+  maybe_bytes_short : (x : Option (List ℕ)) → length (unwrap_or x []) ≤ longest_key → length (optional (bytes_field tag) x) ≤ 1035
   unfolding bytes_field key
   maybe_bytes_short x h = grind (arith, common_steps, short 0 (tag * 8 + 2), at_most_ten)
 
-pub single_short : (m : SingleMetadata) → length (unwrap_or m.partition_key []) ≤ 1024 → m.payload_size < 2 ^ 64
-    → unwrap_or m.event_time 0 < 2 ^ 64 → length (unwrap_or m.ordering_key []) ≤ 1024 → length (single m) ≤ 2114
+pub single_short : (m : SingleMetadata) → length (unwrap_or m.partition_key []) ≤ longest_key → m.payload_size < 2 ^ 64
+    → unwrap_or m.event_time 0 < 2 ^ 64 → length (unwrap_or m.ordering_key []) ≤ longest_key → length (single m) ≤ 2114
 unfolding single
 single_short m k s e o =
     simp length-append
@@ -91,7 +92,7 @@ items_append (i ∷ a) b = grind (arith, common_steps, items_append a b)
 
 -- ── over a store ──
 
-part_short : (store : List ℕ) (x : Option Part) → len_of x ≤ 1024 → length (unwrap_or (bytes_of store x) []) ≤ 1024
+part_short : (store : List ℕ) (x : Option Part) → len_of x ≤ longest_key → length (unwrap_or (bytes_of store x) []) ≤ longest_key
 part_short store x h = grind (arith, common_steps)
 
 pub bounded : (store : List ℕ) (m : SingleMessage) → WithinBounds m → Bounded (item_of store m)
@@ -128,7 +129,7 @@ batch_step store ms i d h = grind (arith, common_steps, drop-cons)
 
 -- ── how long an item can be: the sums of a batch of 512 never stop ──
 
-zeros_short : (x : Option Part) → len_of x ≤ 1024 → length (unwrap_or (zeros x) []) ≤ 1024
+zeros_short : (x : Option Part) → len_of x ≤ longest_key → length (unwrap_or (zeros x) []) ≤ longest_key
 zeros_short x h = grind (arith, common_steps)
 
 pub item_short : (m : SingleMessage) → WithinBounds m → item_length m ≤ 16779334

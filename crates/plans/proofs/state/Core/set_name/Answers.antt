@@ -4,6 +4,7 @@ use mathlib.Core.Path.{ap, sym, ◌∙◌}
 use borrow.Author.Tests.{leb-true}
 use lib.Seq.{take_all}
 use Rattle.laws.proofs.Choice.{pick_true}
+use Rattle.types.specs.Bounds.{longest_name}
 use Rattle.types.specs.declared.frame.ProducerName.{ProducerName}
 use Rattle.queue.specs.Settings.{name_from, with_name}
 use Rattle.plans.specs.State.{core_settings}
@@ -17,6 +18,6 @@ returns-then-allows_name c =
     let a = c.args in
     let name = a.name.now in
     let allowed = sym c.allows_name.ensures ∙ c.if-allows_name.true in
-    let whole = take_all 64 name (leb-true (length name) 64 allowed) in
+    let whole = take_all longest_name name (leb-true (length name) longest_name allowed) in
     let set : ProducerName → Result Core ProducerError = λ n. Ok (core_settings (with_name n a.self.settings) a.self) in
     ap set (c.name_from.ensures ∙ ap name_from whole) ∙ sym (pick_true (set (name_from name)) (Err SettingOverBound) allowed)
