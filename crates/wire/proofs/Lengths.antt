@@ -2,7 +2,7 @@
 use Rattle.std.specs.Prelude.{None, Option, Some}
 use Rattle.std.specs.Option.{ForSome}
 use Prim.Native.Nat.{ℕ, ◌+◌}
-use mathlib.Core.Path.{◌≡◌, refl}
+use mathlib.Core.Path.{◌≡◌, refl, sym}
 use mathlib.Core.List.{List, [], ◌∷◌, ◌++◌}
 use mathlib.Core.Bool.{true}
 use native.Mathlib.Omega.{arith}
@@ -14,7 +14,7 @@ use Rattle.wire.specs.Proto.{varint_field, bytes_field, bool_field, optional, be
 use Rattle.wire.specs.Single.{single}
 use Rattle.wire.specs.Batch.{Item, metadata, item, items, item_of, metadata_of, batch_payload, All, InStore}
 use Rattle.wire.specs.Fields.{part_length, part_field_length}
-use Rattle.wire.specs.Length.{zeros, single_length, item_length, batch_length}
+use Rattle.wire.specs.Length.{zeros, single_length, item_length, batch_length, LengthRule}
 
 -- a part under a tag, with the store's bytes, and with zeros for them
 abbrev part_field : List ℕ → ℕ → Part → List ℕ
@@ -84,6 +84,9 @@ module _ (store : List ℕ) (m : SingleMessage) (i : InStore (length store) m) w
   unfolding item_length
   item_length_lem =
       omega (arith, item_size (item_of store m), single_length_lem, part_length store m.payload i.payload)
+
+pub length_rule : LengthRule
+length_rule store m i = (sym (single_length_lem store m i), sym (item_length_lem store m i))
 
 pub batch_length_lem : (store : List ℕ) (ms : List SingleMessage) → All (InStore (length store)) ms
     → length (batch_payload store ms) ≡ batch_length ms

@@ -7,8 +7,8 @@ use lib.ListN.{length, take, drop, set}
 use lib.Seq.{sets-eq}
 use Rattle.std.proofs.lemmas.Grind.{common_steps}
 use Rattle.std.proofs.lemmas.Slice.{overwrites}
-use Rattle.wire.specs.Proto.{be32}
 use Rattle.wire.specs.Buffer.{Room, Puts}
+use Rattle.wire.specs.Proto.{be32}
 
 -- the bytes stand from a place on, the rest is as it was, and the answer is the next place
 pub record PutsAt (bytes : List ℕ) (at : ℕ) (before after : List ℕ) (r : ℕ) : Type 0 where
@@ -37,10 +37,6 @@ next v w =
       left = grind (arith, common_steps, overwrites);
     }
 
--- one run of bytes in front of another that is there already
-pub before : {d₀ d₁ d₂ a b : List ℕ} {at n k : ℕ} → at ≡ length a → PutsAt b at d₀ d₁ n → Puts a d₁ d₂ k → Puts (a ++ b) d₀ d₂ n
-before e v w = grind (arith, common_steps)
-
 -- a run of bytes for which the rest of the buffer is lent, written from its start and taken back
 pub lent_at : (d : List ℕ) (at : ℕ) {ys b : List ℕ} {n : ℕ} → at ≤ length d → Puts b (take (length d - at) (drop at d)) ys n
     → PutsAt b at d (take at d ++ (ys ++ drop (length d - at) (drop at d))) (at + n)
@@ -56,11 +52,10 @@ pub then_copied : {d₀ d x a b : List ℕ} {at n : ℕ} → Room (a ++ b) d₀ 
     → Puts (a ++ b) d₀ (take at d ++ (x ++ drop (at + n - at) (drop at d))) (at + n)
 then_copied r v e f = grind (arith, common_steps, next)
 
--- four bytes that say how many bytes follow them
-pub counted : (d : List ℕ) {ys b d₂ : List ℕ} {n k : ℕ} → 4 ≤ length d → Puts b (take (length d - 4) (drop 4 d)) ys n
-    → Puts (be32 n) (take 4 d ++ (ys ++ drop (length d - 4) (drop 4 d))) d₂ k → Puts (be32 (length b) ++ b) d d₂ (4 + n)
+-- four bytes that say how many bytes are to follow them
+pub header : {d₀ d : List ℕ} {n k : ℕ} (m : ℕ) → n ≡ m → Puts (be32 n) d₀ d k → Puts (be32 m) d₀ d 4
 unfolding be32
-counted d {b = b} h v w = before refl (lent_at d 4 h v) (rw v.count at w)
+header m e v = rw e at (answered v v.count)
 
 -- bytes that are as many as the buffer's fill it
 pub filled : {b d d₂ : List ℕ} {n : ℕ} → Puts b d d₂ n → length b ≡ length d → d₂ ≡ b

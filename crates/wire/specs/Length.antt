@@ -1,7 +1,8 @@
 -- How long a message's bytes are, known without its store: a part's length is in the part.
-use Rattle.std.specs.Prelude.{ℕ, ◌+◌, ◌-◌, ◌^◌, min, List, [], ◌∷◌, length, replicate, None, Option, Some}
+use Rattle.std.specs.Prelude.{ℕ, ◌≡◌, ◌+◌, ◌-◌, ◌^◌, min, List, [], ◌∷◌, length, replicate, None, Option, Some}
 use Rattle.types.specs.declared.message.SingleMessage.{SingleMessage}
 use Rattle.wire.specs.Single.{SingleMetadata, single}
+use Rattle.wire.specs.Batch.{item, item_of, metadata_of, InStore}
 use Rattle.types.specs.declared.message.Part.{Part}
 
 -- as many zeros as a part has bytes
@@ -24,7 +25,6 @@ blank_metadata m =
 abbrev pub stopped : ℕ → ℕ
 stopped n = min n (2 ^ 64 - 1)
 
--- that these are the lengths of the bytes written, for every store that the parts lie in, is in proofs/Lengths.antt
 unfoldable pub single_length : SingleMessage → ℕ
 single_length m = length (single (blank_metadata m))
 
@@ -35,3 +35,9 @@ item_length m = 4 + single_length m + m.payload.len
 unfoldable pub batch_length : List SingleMessage → ℕ
 batch_length [] = 0
 batch_length (m ∷ ms) = item_length m + batch_length ms
+
+-- document 02, K4: what is worked out from the fields is the length of the bytes, for every message whose parts lie in the store
+abbrev pub LengthRule : Type 0
+LengthRule =
+    (store : List ℕ) (m : SingleMessage) → InStore (length store) m
+    → (single_length m ≡ length (single (metadata_of store m))) × (item_length m ≡ length (item (item_of store m)))

@@ -18,16 +18,17 @@ pub fn item_len(m: SingleMessage) -> usize
         .saturating_add(m.payload.len)
 }
 
-// Writes the item to the start of `out`. What is behind the first four bytes is lent to the writer of the single metadata; the
-// four say how many bytes it has written.
-#[tactic(auto, using(crate::proofs::Lengths::item_size, crate::specs::Fields::part_length))]
+// Writes the item to the start of `out` (document 02, K4): the four bytes say what the fields come to, and what is behind them is
+// lent to the writer of the single metadata.
+#[tactic(auto, using(crate::proofs::Lengths::item_size, crate::proofs::Lengths::single_length_lem, crate::specs::Fields::part_length))]
 pub fn put_item(out: &mut [u8], store: &[u8], m: SingleMessage) -> usize
     requires { InStore (length store.now) m × Room (item (item_of store.now m)) out.old }
     ensures { Puts (item (item_of store.now m)) out.old out.new result }
 {
     let Part { start, len } = m.payload;
-    let n = put_single(&mut out[4..], store, m);
+    let n = single_len(m);
     put_be32(out, n);
+    put_single(&mut out[4..], store, m);
     let head = 4 + n;
     out[head..head + len].copy_from_slice(&store[start..start + len]);
     head + len
