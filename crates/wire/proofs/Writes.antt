@@ -7,8 +7,8 @@ use lib.ListN.{length, take, drop, set}
 use lib.Seq.{sets-eq}
 use Rattle.std.proofs.lemmas.Grind.{common_steps}
 use Rattle.std.proofs.lemmas.Slice.{overwrites}
-use Rattle.wire.specs.Buffer.{Room, Puts}
 use Rattle.wire.specs.Proto.{be32}
+use Rattle.wire.specs.Buffer.{Room, Puts}
 
 -- the bytes stand from a place on, the rest is as it was, and the answer is the next place
 pub record PutsAt (bytes : List ℕ) (at : ℕ) (before after : List ℕ) (r : ℕ) : Type 0 where
