@@ -30,7 +30,7 @@ maybe_part store tag (Some p) = refl
 
 maybe_blank : (tag : ℕ) (x : Option Part) → optional (bytes_field tag) (zeros x) ≡ optional (blank_field tag) x
 maybe_blank tag None = refl
-maybe_blank tag (Some p) = refl
+maybe_blank tag (Some p) = grind arith
 
 maybe_length : (store : List ℕ) (tag : ℕ) (x : Option Part) → maybe_in (length store) x ≡ true
     → length (optional (part_field store tag) x) ≡ length (optional (blank_field tag) x)
