@@ -26,6 +26,7 @@ mod operations;
 mod oracle;
 #[cfg(feature = "port")]
 mod port;
+mod reconnects;
 mod recorded;
 mod run;
 mod script;
@@ -43,7 +44,8 @@ use std::time::Instant;
 use std::{env, fs};
 
 use counts::Counts;
-use generate::{Amounts, CLASSES};
+use generate::{Amounts, CLASSES, twice_pairs};
+use reconnects::Reconnects;
 use run::{Observer, answers_of};
 
 const USAGE: &str = "usage: differential COMMAND
@@ -109,7 +111,22 @@ fn campaign(amounts: &Amounts, seed: &str) -> Result<(), String> {
         );
         all.add(&counts);
     }
+    reconnects(amounts, seed)?;
     report(&all)
+}
+
+/// Two reconnects in a row beside one, in the Rust.
+fn reconnects(amounts: &Amounts, seed: u64) -> Result<(), String> {
+    let mut reconnects = Reconnects::default();
+    let mut wrong = None;
+    twice_pairs(amounts, seed, &mut |pair| {
+        let mut observer = Observer::default();
+        let mut rust = |script: &[u8], output| answers_of(script, output, &mut observer);
+        let difference = reconnects.difference(&pair, &mut rust);
+        wrong = wrong.take().or(difference);
+    });
+    say!("{reconnects}\n");
+    wrong.or(reconnects.missing()).map_or(Ok(()), Err)
 }
 
 fn report(counts: &Counts) -> Result<(), String> {

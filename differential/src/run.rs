@@ -76,12 +76,17 @@ fn operations(
 pub fn run_or_keep(script: &[u8], out: &mut [u8], observer: &mut Observer) -> usize {
     let length = catch_unwind(AssertUnwindSafe(|| run(script, out, observer)));
     length.unwrap_or_else(|disagreement| {
-        match fs::write(FAILING, script) {
-            Ok(()) => eprintln!("the script is in {FAILING}"),
-            Err(error) => eprintln!("the script could not be kept: {error}"),
-        }
+        eprintln!("{}", keep(FAILING, script));
         resume_unwind(disagreement)
     })
+}
+
+/// Keeps a script in a file, and says so.
+pub fn keep(file: &str, script: &[u8]) -> String {
+    match fs::write(file, script) {
+        Ok(()) => format!("the script is in {file}"),
+        Err(error) => format!("the script could not be kept: {error}"),
+    }
 }
 
 /// Carries out a script with an output of this length.

@@ -1,12 +1,11 @@
 //! The smallest script on which the port and the Rust differ, and its text.
 
 use std::fmt::Write as _;
-use std::fs;
 
 use crate::beside::{Beside, Host, same};
 use crate::drive::Drive;
 use crate::generate::build::Case;
-use crate::run::{Observer, UNTOUCHED, answers_of};
+use crate::run::{Observer, UNTOUCHED, answers_of, keep};
 use crate::script::{read_head, read_operation};
 use crate::writer::Script;
 
@@ -20,10 +19,7 @@ pub fn describe(case: &Case, host: Host, drive: Drive) -> String {
     let Some(small) = smallest(case, host, drive) else {
         return format!("{drive}: no difference by itself, but after the scripts before it");
     };
-    let kept = match fs::write(DIFFERING, &small.script) {
-        Ok(()) => format!("the script is in {DIFFERING}"),
-        Err(error) => format!("the script could not be kept: {error}"),
-    };
+    let kept = keep(DIFFERING, &small.script);
     format!("{drive}: {}  {kept}", text(&small, host))
 }
 

@@ -1,15 +1,17 @@
 //! The executed cases of document 01 and the example of docs/SCRIPT.md, on the Rust; and the reader
 //! against the writer of scripts.
 
-use crate::answers::{Answer, Dump};
+use crate::answers::{Answer, Dump, ENDING};
 use crate::beside::{Beside, Host};
 use crate::drive::Drive;
 use crate::generate::build::{
     Builder, LONG, flush, message, plain_send, receipt, send, send_at, take, text, time_out,
 };
+use crate::generate::twice;
 use crate::guard::{Edge, Guarded};
 use crate::operations::{Operation, ReceiptId};
 use crate::oracle::{Checks, Oracle};
+use crate::reconnects::Reconnects;
 use crate::run::{Observer, answers_of};
 use crate::script::{read_head, read_operation};
 use crate::shrink::{describe, smallest};
@@ -254,6 +256,30 @@ fn a_difference_is_found_and_made_small() {
     let wanted = [Operation::SetName(vec![0; 4]), Operation::Stats];
     assert_eq!(operations_of(&small.script), wanted);
     assert!(describe(&case, forgetful_host, Drive::InPlace).contains("Stats"));
+}
+
+#[test]
+fn a_second_reconnect_changes_nothing_and_one_that_does_is_found() {
+    let mut pairs = Vec::new();
+    twice::pairs(&mut |pair| pairs.push(pair));
+    let mut rust = |script: &[u8], output| answers_of(script, output, &mut Observer::default());
+    let mut reconnects = Reconnects::default();
+    for pair in &pairs {
+        assert_eq!(reconnects.difference(pair, &mut rust), None);
+    }
+    assert_eq!(reconnects.missing(), None);
+    // The last byte before the answer that no frame waits.
+    let pair = &pairs[0];
+    let mut host = |script: &[u8], output| {
+        let mut answers = rust(script, output);
+        if script == pair.twice.case.script {
+            let end = answers.len() - ENDING as usize;
+            answers[end - 3] ^= 1;
+        }
+        answers
+    };
+    let found = reconnects.difference(pair, &mut host);
+    assert!(found.is_some_and(|text| text.starts_with("what follows")));
 }
 
 /// What the system says of the page at this address.

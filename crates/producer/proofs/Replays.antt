@@ -1,6 +1,6 @@
 -- The replays: what is planned and stored makes the queue and the answer of the definitions. Assumes nothing.
 use Rattle.std.specs.Prelude.{Err, Ok, Result}
-use Rattle.std.proofs.Common.{◌≡◌, ℕ, ◌+◌, ◌^◌, ◌<◌, ◌≤◌, min, Bool, true, false, not, ltb, List, ◌++◌, map, length, take, sym, refl, ap, ◌∙◌, arith, ltb-false, lt-ltb}
+use Rattle.std.proofs.Common.{◌≡◌, ℕ, ◌+◌, ◌^◌, ◌<◌, ◌≤◌, min, Bool, true, false, not, ltb, List, map, length, take, sym, refl, ap, ◌∙◌, arith, ltb-false, lt-ltb}
 use native.Mathlib.Decide.{dec_lt}
 use lib.ListN.{length-map}
 use Rattle.laws.specs.Choice.{pick}
@@ -15,7 +15,7 @@ use Rattle.types.specs.declared.error.ProducerError.{ProducerError}
 use Rattle.types.specs.declared.error.ProducerError.TheVariants.{OutboundFull, PendingFull, MalformedEntry}
 use Rattle.queue.specs.Queue.{Queue, Outcome, done, refuse, with_out, with_pending}
 use Rattle.queue.specs.Sizes.{outbound_size, pending_size}
-use Rattle.queue.specs.Tables.{all_well_formed, frames_for, fronted, mark, unborne, replay_pending_outbound, replay_snapshots}
+use Rattle.queue.specs.Tables.{all_well_formed, frames_for, fronted, mark, put_back, unborne, replay_pending_outbound, replay_snapshots}
 use Rattle.queue.specs.Told.{told_error}
 use Rattle.tables.specs.Unborne.{free}
 use Rattle.plans.specs.Replay.{replay_count, replay_answer}
@@ -88,11 +88,8 @@ module _ (s : ProducerState) where
   abbrev pub replayed : List OpSend → Queue
   replayed l = with_out (fronted l (view s).out) (with_pending (front_all pending_size (map mark l) (map mark (view s).pending)) (view s))
 
-  abbrev marked : List OpSend → Queue
-  marked l = with_out (fronted l (view s).out) (with_pending (map mark (l ++ (view s).pending)) (view s))
-
   -- where there is room for them
-  in_room : (l : List OpSend) → length l + length (view s).pending ≤ pending_size → replayed l ≡ marked l
+  in_room : (l : List OpSend) → length l + length (view s).pending ≤ pending_size → replayed l ≡ put_back l (view s)
   in_room l b =
       let x : length (map mark l) ≡ length l = length-map l mark in
       let y : length (map mark (view s).pending) ≡ length (view s).pending = length-map (view s).pending mark in
@@ -128,4 +125,4 @@ module _ (s : ProducerState) where
       ends_as (chosen (not (all_well_formed l)) (ltb pending_size (length l + sym (pending_length s f) j)) (sat_test s.core.rings.waiting (frames_for l) j)) (view s)
       (replayed l))
       ∙ by_tests (not (all_well_formed l)) (ltb pending_size (length l + length (view s).pending)) (ltb outbound_size (s.core.rings.waiting + frames_for l)) (replayed l)
-      (marked l) (λ e. in_room l (ltb-false pending_size (length l + length (view s).pending) e))
+      (put_back l (view s)) (λ e. in_room l (ltb-false pending_size (length l + length (view s).pending) e))

@@ -1,15 +1,19 @@
 -- A run of the code has the view, the frames and the accepted messages of the run of definitions, by induction over its calls. Assumes nothing.
 use Rattle.std.specs.Prelude.{Some}
-use Rattle.std.proofs.Common.{◌≡◌, ℕ, List, ◌++◌, sym, refl, ap, ◌∙◌, subst}
-use Rattle.queue.specs.Queue.{Queue, Outcome, new_queue}
+use Rattle.std.proofs.Common.{◌≡◌, ℕ, List, [], ◌++◌, map, sym, refl, ap, ◌∙◌, subst}
+use Rattle.queue.specs.Queue.{Queue, Outcome, done, new_queue}
 use Rattle.queue.specs.Frame.{Frame}
 use Rattle.queue.specs.Message.{Message}
+use Rattle.queue.specs.Settle.{handed}
+use Rattle.queue.specs.Tables.{mark, snapshot_pending_sends, replay_snapshots}
 use Rattle.queue.specs.Run.{Call, Gives, step, after, taken, accepted, frame_of, accepted_by, Waiting}
 use Rattle.queue.specs.Read.{read}
 use Rattle.types.specs.declared.types.ProducerHandle.{ProducerHandle}
 use Rattle.queue.proofs.Order.{order_rule, chunk_rule}
+use Rattle.queue.proofs.Restore.{snapshot_is}
+use Rattle.queue.proofs.Twice.{twice_rule}
 use Rattle.producer.specs.View.{view}
-use Rattle.producer.specs.Runs.{Run, end, call, RunOfNew, CodeInOrder, CodeSameFrames, CodeInChunks}
+use Rattle.producer.specs.Runs.{Run, end, call, RunOfNew, CodeInOrder, CodeSameFrames, CodeInChunks, CodeTwice}
 use Rattle.producer.specs.declared.state.ProducerState.{ProducerState}
 
 -- what the definitions say of a run from this queue
@@ -58,3 +62,19 @@ pub code_in_chunks : CodeInChunks
 code_in_chunks store handle cs u frames waiting messages run is64 covered waits =
     let r = of_new run in
     rw r.frames (chunk_rule store handle cs waiting is64 covered (as_waiting r waits))
+
+pub code_twice : CodeTwice
+code_twice start cut first between last droppedRoom replayRoom droppedRoom₂ replayRoom₂ tables again replayed one two room three four =
+    let q = view start in
+    let table = tables.1.entries in
+    let s = snapshot_is droppedRoom replayRoom q (view cut) tables (sym one) in
+    let handed_out : tables ≡ (handed tables.0.entries, handed table) = s.tables_are ∙ sym (λ j. (handed (s.tables_are j).0.entries, handed (s.tables_are j).1.entries)) in
+    let first_is : snapshot_pending_sends droppedRoom replayRoom q ≡ (view cut, done (handed tables.0.entries, handed table)) =
+    sym one ∙ ap (λ t. (view cut, done t)) handed_out in
+    let w = twice_rule q (view cut) (view first) droppedRoom replayRoom droppedRoom₂ replayRoom₂ tables.0.entries table first_is (sym two) room in
+    let snap = three ∙ w.snapshot in
+    let answer : again ≡ done (handed [], handed (map mark table)) = ap (λ o. o.1) snap in
+    let at : view between ≡ w.between = ap (λ o. o.0) snap in
+    let met = rw answer at four in
+    let rep = met ∙ ap (replay_snapshots (map mark table)) at ∙ w.replay in
+    record { snapshot = answer; replay = ap (λ o. o.1) rep; same = ap (λ o. o.0) rep }

@@ -13,7 +13,7 @@ use Rattle.queue.specs.Queue.{Queue, Outcome, refused, done, empty_outgoing}
 use Rattle.queue.specs.Settings.{changed}
 use Rattle.queue.specs.Settle.{Handed, handed, table_after}
 use Rattle.queue.specs.Sizes.{outbound_size, held_size, pending_size}
-use Rattle.queue.specs.Tables.{batched_of, framed_of, failed, snapshot_pending_sends}
+use Rattle.queue.specs.Tables.{batched_of, framed_of, failed, snapped, snapshot_pending_sends}
 use Rattle.tables.specs.Scalars.{core_snapshot}
 use Rattle.tables.specs.Picked.{kind_of, Lists}
 use Rattle.tables.specs.declared.list.Listed.{Listed}
@@ -39,19 +39,7 @@ either : (a b : Bool) → (not a || not b) ≡ not (a && b)
 either true b = refl
 either false b = refl
 
--- the queue that a snapshot leaves
-abbrev left_of : Queue → Queue
-left_of q =
-    record {
-      handle = q.handle;
-      settings = changed (BrokerReady false) q.settings;
-      ids = q.ids;
-      counters = failed (length (batched_of q.pending)) q.counters;
-      pending = [];
-      out = empty_outgoing;
-    }
-
-left_view : (s : ProducerState) (n : ℕ) → n ≡ length (batched_of (view s).pending) → view (store_core (core_snapshot n s.core) s) ≡ left_of (view s)
+left_view : (s : ProducerState) (n : ℕ) → n ≡ length (batched_of (view s).pending) → view (store_core (core_snapshot n s.core) s) ≡ snapped (view s)
 unfolding view
 left_view s n e =
     let c = s.core in
@@ -80,19 +68,19 @@ counted s ds rs m k t zs us d r =
 
 snapshot_is : (ds rs : ℕ) (q : Queue) (b : Bool)
     → (leb (length (batched_of q.pending)) ds && leb (length (framed_of q.pending)) rs) ≡ b
-    → snapshot_pending_sends ds rs q ≡ pick b (left_of q, done (handed (batched_of q.pending), handed (framed_of q.pending))) (q, refused 9 [])
+    → snapshot_pending_sends ds rs q ≡ pick b (snapped q, done (handed (batched_of q.pending), handed (framed_of q.pending))) (q, refused 9 [])
 unfolding snapshot_pending_sends
 snapshot_is ds rs q b e =
     let d = length (batched_of q.pending) in
     let r = length (framed_of q.pending) in
-    ap (λ (t : Bool). pick t (q, refused 9 []) (left_of q, done (handed (batched_of q.pending), handed (framed_of q.pending))))
+    ap (λ (t : Bool). pick t (q, refused 9 []) (snapped q, done (handed (batched_of q.pending), handed (framed_of q.pending))))
     ((λ j. short_is d ds j || short_is r rs j) ∙ either (leb d ds) (leb r rs) ∙ ap not e)
     ∙ turned b
   where
     turned : (t : Bool)
         → ◌≡◌ {A = Outcome (Handed × Handed)}
-        (pick (not t) (q, refused 9 []) (left_of q, done (handed (batched_of q.pending), handed (framed_of q.pending))))
-        (pick t (left_of q, done (handed (batched_of q.pending), handed (framed_of q.pending))) (q, refused 9 []))
+        (pick (not t) (q, refused 9 []) (snapped q, done (handed (batched_of q.pending), handed (framed_of q.pending))))
+        (pick t (snapped q, done (handed (batched_of q.pending), handed (framed_of q.pending))) (q, refused 9 []))
     turned true = refl
     turned false = refl
 

@@ -1,10 +1,14 @@
--- Runs of the code: states and answers, each call meeting its method's contract; and the order rule and its corollaries for them.
-use Rattle.std.specs.Prelude.{◌≡◌, ℕ, List, [], ◌∷◌, ◌++◌, Some}
+-- Runs of the code: states and answers, each call meeting its method's contract; the order rule and its corollaries for them, and document 02's
+-- K14 for the four calls of two reconnects.
+use Rattle.std.specs.Prelude.{◌≡◌, ◌≤◌, ℕ, List, [], ◌∷◌, ◌++◌, map, length, Some}
+use Rattle.types.specs.declared.entry.OpSend.{OpSend}
 use Rattle.types.specs.declared.types.ProducerHandle.{ProducerHandle}
-use Rattle.queue.specs.Queue.{Answer, new_queue}
+use Rattle.queue.specs.Queue.{Answer, refused, done, new_queue}
 use Rattle.queue.specs.Frame.{Frame}
 use Rattle.queue.specs.Message.{Message}
-use Rattle.queue.specs.Run.{Call, Gives, frame_of, accepted_by, Waiting, AllRanged}
+use Rattle.queue.specs.Settle.{Handed, handed}
+use Rattle.queue.specs.Tables.{mark}
+use Rattle.queue.specs.Run.{Call, snapshot, replay, Gives, frame_of, accepted_by, Waiting, AllRanged}
 use Rattle.queue.specs.Read.{read}
 use Rattle.queue.specs.Order.{AllCovered, Premises}
 use Rattle.queue.specs.Chunks.{CallByCall}
@@ -60,3 +64,27 @@ CodeInChunks =
     → AllCovered store (new_queue handle) cs
     → Waiting store (view u) waiting
     → CallByCall store (new_queue handle) cs (frames ++ waiting)
+
+-- the whole replay table that a snapshot hands out
+abbrev pub replay_table : Answer (Handed × Handed) → List OpSend
+replay_table (done tables) = tables.1.entries
+replay_table (refused n values) = []
+
+-- K14: what the second reconnect answers, and that it leaves what the first left
+pub record TwiceMet (first last : ProducerState) (table : List OpSend) (again : Answer (Handed × Handed)) (replayed : Answer (Unit {0})) : Type 0 where
+  pub snapshot : again ≡ done (handed [], handed (map mark table))
+  pub replay : replayed ≡ done tt
+  pub same : view last ≡ view first
+
+-- of any states and answers in which the four calls meet their methods' contracts, one after the other: the first two are done, each replay is of
+-- the whole table that the snapshot before it handed out, and the second snapshot has room for as many entries as the first handed out
+abbrev pub CodeTwice : Type 0
+CodeTwice =
+    (start cut first between last : ProducerState) (droppedRoom replayRoom droppedRoom₂ replayRoom₂ : ℕ) (tables : Handed × Handed)
+    (again : Answer (Handed × Handed)) (replayed : Answer (Unit {0}))
+    → Meets [] (snapshot droppedRoom replayRoom) start cut (done tables)
+    → Meets [] (replay tables.1.entries) cut first (done tt)
+    → length tables.1.entries ≤ replayRoom₂
+    → Meets [] (snapshot droppedRoom₂ replayRoom₂) first between again
+    → Meets [] (replay (replay_table again)) between last replayed
+    → TwiceMet first last tables.1.entries again replayed

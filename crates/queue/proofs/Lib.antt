@@ -17,4 +17,5 @@ pub mod Document
 pub mod Example
 pub mod Emptied
 pub mod Restore
+pub mod Twice
 pub mod Rows

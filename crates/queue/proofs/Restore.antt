@@ -11,13 +11,11 @@ use Rattle.laws.specs.Choice.{pick}
 use Rattle.laws.specs.Numbers.{add_sat}
 use Rattle.types.specs.Empty.{empty_batch}
 use Rattle.types.specs.declared.entry.OpSend.{OpSend}
-use Rattle.types.specs.declared.settings.Setting.TheVariants.{BrokerReady}
 use Rattle.wire.specs.Batch.{All}
-use Rattle.queue.specs.Queue.{Queue, Outcome, done, refuse, new_queue, empty_outgoing, with_pending, with_out}
-use Rattle.queue.specs.Settings.{changed}
+use Rattle.queue.specs.Queue.{Queue, Outcome, done, refuse, new_queue, with_pending, with_out}
 use Rattle.queue.specs.Settle.{Handed, handed}
 use Rattle.queue.specs.Sizes.{outbound_size, pending_size}
-use Rattle.queue.specs.Tables.{is_batched, batched_of, framed_of, failed, frames_for, again, mark, borne, unborne, snapshot_pending_sends, replay_snapshots, replay_pending_outbound}
+use Rattle.queue.specs.Tables.{is_batched, batched_of, framed_of, frames_for, again, mark, borne, unborne, snapped, snapshot_pending_sends, replay_snapshots, replay_pending_outbound}
 use Rattle.queue.specs.Run.{after}
 use Rattle.queue.specs.Restore.{RestoreRule}
 use Rattle.laws.proofs.Choice.{pick_ind, differ}
@@ -36,7 +34,7 @@ framed_fewer (op ∷ l) =
     (λ e. omega arith)
     (λ e. omega arith)
 
-framed_again : (l : List OpSend) → framed_of (framed_of l) ≡ framed_of l
+pub framed_again : (l : List OpSend) → framed_of (framed_of l) ≡ framed_of l
 framed_again [] = refl
 framed_again (op ∷ l) = go (is_batched op.publish.replay) refl (framed_again l)
   where
@@ -67,42 +65,29 @@ all_borne before (op ∷ l) =
 
 -- ── the two calls ──
 
--- the queue after a snapshot
-abbrev snapped : Queue → Queue
-snapped q =
-    record {
-      handle = q.handle;
-      settings = changed (BrokerReady false) q.settings;
-      ids = q.ids;
-      counters = failed (length (batched_of q.pending)) q.counters;
-      pending = [];
-      out = empty_outgoing;
-    }
-
 -- the queue after the replay of a table
 abbrev restored : List OpSend → Queue → Queue
 restored l q =
     with_out (record { frames = map again l; waiting = frames_for l; held = []; batch = empty_batch }) (with_pending (map mark l) (snapped q))
 
-record Snapped (q p : Queue) (droppedTable replayTable : List OpSend) : Type 0 where
-  queue : p ≡ snapped q
-  dropped : droppedTable ≡ batched_of q.pending
-  kept : replayTable ≡ framed_of q.pending
+pub record Snapped (q p : Queue) (tables : Handed × Handed) : Type 0 where
+  pub queue : p ≡ snapped q
+  pub tables_are : tables ≡ (handed (batched_of q.pending), handed (framed_of q.pending))
 
-snapshot_is : (droppedRoom replayRoom : ℕ) (q p : Queue) (d r : List OpSend) → snapshot_pending_sends droppedRoom replayRoom q ≡ (p, done (handed d, handed r))
-    → Snapped q p d r
+pub snapshot_is : (droppedRoom replayRoom : ℕ) (q p : Queue) (tables : Handed × Handed) → snapshot_pending_sends droppedRoom replayRoom q ≡ (p, done tables)
+    → Snapped q p tables
 unfolding snapshot_pending_sends
-snapshot_is droppedRoom replayRoom q p d r e =
+snapshot_is droppedRoom replayRoom q p tables e =
     go (ltb droppedRoom (length (batched_of q.pending)) || ltb replayRoom (length (framed_of q.pending))) e
   where
-    go : (b : Bool) → pick {A = Outcome (Handed × Handed)} b (refuse 9 q) (snapped q, done (handed (batched_of q.pending), handed (framed_of q.pending))) ≡ (p, done (handed d, handed r))
-        → Snapped q p d r
+    go : (b : Bool)
+        → pick {A = Outcome (Handed × Handed)} b (refuse 9 q) (snapped q, done (handed (batched_of q.pending), handed (framed_of q.pending))) ≡ (p, done tables)
+        → Snapped q p tables
     go true e = differ (cc (ap (λ x. x.1) e))
     go false e =
-        let given : Handed × Handed = (handed d, handed r) in
         let written : Handed × Handed = (handed (batched_of q.pending), handed (framed_of q.pending)) in
-        let tables : given ≡ written = cc (ap (λ x. x.1) e) in
-        record { queue = sym (ap (λ x. x.0) e); dropped = ap (λ x. x.0.entries) tables; kept = ap (λ x. x.1.entries) tables }
+        let given : tables ≡ written = cc (ap (λ x. x.1) e) in
+        record { queue = sym (ap (λ x. x.0) e); tables_are = given }
 
 module _ (q : Queue) (l : List OpSend) (formed : EachFormed l) (framed : framed_of l ≡ l) (few : length l ≤ pending_size) (room : frames_for l ≤ outbound_size) where
   replay_is : replay_snapshots l (snapped q) ≡ (restored l q, done tt)
@@ -133,20 +118,21 @@ restore_rule store handle cs is64 droppedRoom replayRoom p d r e room =
     let q = after store (new_queue handle) cs in
     let l = framed_of q.pending in
     let k = run_well store cs (new_queue handle) (new_well handle) is64 in
-    let s = snapshot_is droppedRoom replayRoom q p d r e in
+    let s = snapshot_is droppedRoom replayRoom q p (handed d, handed r) e in
+    let kept : r ≡ l = ap (λ t. t.1.entries) s.tables_are in
     let formed = framed_all _ q.pending k.pending.formed in
     let few : length l ≤ pending_size = omega (arith, framed_fewer q.pending, k.pending.few) in
-    let fits : frames_for l ≤ outbound_size = rw s.kept at room in
+    let fits : frames_for l ≤ outbound_size = rw kept at room in
     let is : replay_snapshots r p ≡ (restored l q, done tt) =
-    rw (s.kept, s.queue) (replay_is q l formed (framed_again q.pending) few fits) in
+    rw (kept, s.queue) (replay_is q l formed (framed_again q.pending) few fits) in
     let once = once_only q l formed (framed_again q.pending) few fits in
     record {
-      dropped = s.dropped;
-      kept = s.kept;
+      dropped = ap (λ t. t.0.entries) s.tables_are;
+      kept = kept;
       carried_out = ap (λ x. x.1) is;
-      pending = rw (is, s.kept);
+      pending = rw (is, kept);
       answerable = rw is (all_answerable l);
-      frames = rw (is, s.kept);
-      waiting = rw (is, s.kept);
+      frames = rw (is, kept);
+      waiting = rw (is, kept);
       once = rw is once;
     }

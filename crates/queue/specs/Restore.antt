@@ -1,5 +1,6 @@
--- A snapshot, and then the replay of its table (document 01, 'receipts, errors, snapshot, replay').
-use Rattle.std.specs.Prelude.{ℕ, ◌≤◌, ◌≡◌, true, List, map}
+-- A snapshot, and then the replay of its table (document 01, 'receipts, errors, snapshot, replay'), and the two done twice in a row (document 02,
+-- K14).
+use Rattle.std.specs.Prelude.{ℕ, ◌≤◌, ◌≡◌, true, List, [], map, length}
 use Rattle.types.specs.declared.entry.OpSend.{OpSend}
 use Rattle.types.specs.declared.types.ProducerHandle.{ProducerHandle}
 use Rattle.wire.specs.Batch.{All}
@@ -30,3 +31,20 @@ RestoreRule =
     → snapshot_pending_sends droppedRoom replayRoom (after store (new_queue handle) cs) ≡ (p, done (handed droppedTable, handed replayTable))
     → frames_for replayTable ≤ outbound_size
     → Restored (after store (new_queue handle) cs) droppedTable replayTable (replay_snapshots replayTable p)
+
+-- after a reconnect that left `first`, having replayed `table`, a second one: its snapshot finds nothing to drop and hands out the same entries,
+-- now marked; its replay is accepted, and the queue is `first` again, the whole of it
+pub record Twice (first : Queue) (droppedRoom replayRoom : ℕ) (table : List OpSend) : Type 0 where
+  pub between : Queue
+  pub snapshot : snapshot_pending_sends droppedRoom replayRoom first ≡ (between, done (handed [], handed (map mark table)))
+  pub replay : replay_snapshots (map mark table) between ≡ (first, done tt)
+
+-- for every queue, reached by calls or not, after a snapshot and the accepted replay of the whole of its table; the second snapshot's replay
+-- table has room for as many entries, and its dropped table may have none
+abbrev pub TwiceRule : Type 0
+TwiceRule =
+    (q p first : Queue) (droppedRoom replayRoom droppedRoom₂ replayRoom₂ : ℕ) (dropped table : List OpSend)
+    → snapshot_pending_sends droppedRoom replayRoom q ≡ (p, done (handed dropped, handed table))
+    → replay_snapshots table p ≡ (first, done tt)
+    → length table ≤ replayRoom₂
+    → Twice first droppedRoom₂ replayRoom₂ table

@@ -48,22 +48,24 @@ failed n k =
       total_acks_received = k.total_acks_received;
     }
 
--- `snapshot_pending_sends` clears `broker_ready`, hands batched entries to the dropped table and the others to the replay table
+-- a snapshot clears `broker_ready`, and no entry or frame stays
+abbrev pub snapped : Queue → Queue
+snapped q =
+    record {
+      handle = q.handle;
+      settings = changed (BrokerReady false) q.settings;
+      ids = q.ids;
+      counters = failed (length (batched_of q.pending)) q.counters;
+      pending = [];
+      out = empty_outgoing;
+    }
+
+-- `snapshot_pending_sends` hands batched entries to the dropped table and the others to the replay table
 unfoldable pub snapshot_pending_sends : ℕ → ℕ → Queue → Outcome (Handed × Handed)
 snapshot_pending_sends droppedRoom replayRoom q =
     let dropped = batched_of q.pending in
     let kept = framed_of q.pending in
-    pick (ltb droppedRoom (length dropped) || ltb replayRoom (length kept)) (refuse 9 q) (
-      record {
-        handle = q.handle;
-        settings = changed (BrokerReady false) q.settings;
-        ids = q.ids;
-        counters = failed (length dropped) q.counters;
-        pending = [];
-        out = empty_outgoing;
-      },
-      done (handed dropped, handed kept),
-    )
+    pick (ltb droppedRoom (length dropped) || ltb replayRoom (length kept)) (refuse 9 q) (snapped q, done (handed dropped, handed kept))
 
 -- ── replays ──
 
@@ -114,13 +116,16 @@ fronted l o =
       batch = o.batch;
     }
 
--- `replay_snapshots` puts entries and frames at the front: 12, then 7 (pending would pass 256), then 4
+-- entries and their frames in front of all others, and every mark set
+abbrev pub put_back : List OpSend → Queue → Queue
+put_back l q = with_out (fronted l q.out) (with_pending (map mark (l ++ q.pending)) q)
+
+-- `replay_snapshots` puts a table back: 12, then 7 (pending would pass 256), then 4
 unfoldable pub replay_snapshots : List OpSend → Queue → Outcome (Unit {0})
 replay_snapshots l q =
     pick (not (all_well_formed l)) (refuse 12 q)
     (pick (ltb pending_size (length l + length q.pending)) (refuse 7 q)
-    (pick (too_many (frames_for l) q) (refuse 4 q)
-    (with_out (fronted l q.out) (with_pending (map mark (l ++ q.pending)) q), done tt)))
+    (pick (too_many (frames_for l) q) (refuse 4 q) (put_back l q, done tt)))
 
 -- a waiting frame bears the id; a batch frame bears its lowest
 abbrev pub borne : ℕ → List FrameRecord → Bool

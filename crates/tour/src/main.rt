@@ -1,5 +1,5 @@
 // A tour: a rate table goes out in chunks between two batches and a single message; its frames are taken, receipts come back,
-// and the frames are read back into the messages.
+// and the frames are read back into the messages. Then the line breaks twice in a row.
 #![tactic(auto)]
 
 mod compare;
@@ -9,6 +9,7 @@ mod list;
 mod message;
 mod read;
 mod receipts;
+mod reconnect;
 mod send;
 mod show;
 mod story;

@@ -35,7 +35,7 @@ impl Display for Decided {
 }
 
 impl<P: Print> Tour<'_, P> {
-    fn send(&mut self, m: OutgoingMessage) -> io::Result<()> {
+    pub fn send(&mut self, m: OutgoingMessage) -> io::Result<()> {
         let waiting = self.state.outbound_len();
         let r = self.state.queue_send(self.store, m, UUID, NOW, NOW);
         self.state = r.state;

@@ -58,7 +58,7 @@ fn transaction() -> Option<TxnId> {
     })
 }
 
-fn quote() -> OutgoingMessage {
+pub fn quote() -> OutgoingMessage {
     OutgoingMessage {
         event_time: Some(1_700_000_000_000),
         ..row(0, 5, 19)
@@ -71,6 +71,10 @@ fn withdrawal() -> OutgoingMessage {
         null_value: Some(true),
         ..row(0, 5, 0)
     }
+}
+
+pub fn rate_table() -> OutgoingMessage {
+    row(160, 5, 110)
 }
 
 // A message with a source message id is not batchable.
@@ -111,7 +115,7 @@ pub fn messages() -> [(&'static str, OutgoingMessage); 7] {
         ("a quote", quote()),
         ("a quote", row(32, 5, 18)),
         ("a quote taken back,", withdrawal()),
-        ("the rate table", row(160, 5, 110)),
+        ("the rate table", rate_table()),
         ("a replicated quote", replicated_quote()),
         ("in a transaction,", acceptance()),
         ("in a transaction,", summary()),

@@ -67,7 +67,7 @@ impl Taken {
 
 impl<P: Print> Tour<'_, P> {
     // Shows the frame taken, and keeps it; or shows the refusal.
-    fn take(&mut self) -> io::Result<()> {
+    pub fn take(&mut self) -> io::Result<()> {
         let r = self
             .state
             .next_outbound_frame(self.store, self.taken.room());

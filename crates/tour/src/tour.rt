@@ -50,6 +50,8 @@ impl<'a, P: Print> Tour<'a, P> {
         println!(self.out; "\nCounters")?;
         self.counters()?;
         println!(self.out; "\nMessages read back from the frames")?;
-        self.compare()
+        self.compare()?;
+        println!(self.out; "\nTwo reconnects in a row")?;
+        self.reconnect_twice()
     }
 }

@@ -18,6 +18,7 @@ pub struct Case {
 }
 
 /// The script of one case, with the operations that tests need most.
+#[derive(Clone)]
 pub struct Builder(Script);
 
 impl Builder {
@@ -68,6 +69,10 @@ impl Builder {
     pub fn chunking(&mut self, limit: u64) -> &mut Self {
         self.op(Operation::SetChunkingEnabled(true))
             .op(Operation::SetMaxMessageSize(limit))
+    }
+
+    pub fn length(&self) -> usize {
+        self.0.bytes.len()
     }
 
     pub fn end(&self) -> Case {

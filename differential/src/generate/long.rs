@@ -40,8 +40,13 @@ struct Walk<'a> {
     store: u64,
 }
 
-/// A script of `length` operations.
+/// A script of `length` operations, and a dump.
 pub fn case(random: &mut Random, mood: Mood, length: usize, output: usize) -> Case {
+    walk(random, mood, length).dump().end_with(output)
+}
+
+/// Settings and `length` operations.
+pub fn walk(random: &mut Random, mood: Mood, length: usize) -> Builder {
     let mut store = super::build::text(LETTERS as usize);
     store.extend(super::build::binary(match mood {
         Mood::Wide => wide::BINARY,
@@ -71,7 +76,7 @@ pub fn case(random: &mut Random, mood: Mood, length: usize, output: usize) -> Ca
     for _ in 0..length {
         builder.op(walk.operation());
     }
-    builder.dump().end_with(output)
+    builder
 }
 
 impl Walk<'_> {

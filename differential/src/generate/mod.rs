@@ -12,11 +12,13 @@ mod long;
 mod random;
 #[cfg(feature = "port")]
 pub mod rounds;
+pub mod twice;
 mod wide;
 
 use build::{Case, OUTPUT};
 use long::Mood;
 use random::Random;
+use twice::Pair;
 
 /// Enough for the answers of a long script.
 const LONG_OUTPUT: usize = 1 << 21;
@@ -30,6 +32,9 @@ pub struct Amounts {
     pub long_output: usize,
     pub damaged_scripts: usize,
     pub damaged_step: usize,
+    /// Scripts that are written once with a reconnect and once with two.
+    pub pairs: usize,
+    /// What is too large to be recorded.
     pub large: bool,
 }
 
@@ -43,6 +48,7 @@ impl Amounts {
         long_output: LONG_OUTPUT,
         damaged_scripts: 4_000,
         damaged_step: 1,
+        pairs: 50,
         large: true,
     };
 
@@ -52,6 +58,7 @@ impl Amounts {
         few_length: 6,
         long_scripts: 6_000,
         damaged_scripts: 20_000,
+        pairs: 200,
         ..Self::MILLION
     };
 
@@ -64,6 +71,7 @@ impl Amounts {
         long_output: OUTPUT,
         damaged_scripts: 300,
         damaged_step: 7,
+        pairs: 0,
         large: false,
     };
 }
@@ -75,7 +83,7 @@ pub struct Class {
     pub cases: fn(&Amounts, u64, &mut dyn FnMut(Case)),
 }
 
-pub const CLASSES: [Class; 6] = [
+pub const CLASSES: [Class; 7] = [
     Class {
         name: "exhaustive",
         covers: exhaustive::COVERS,
@@ -116,6 +124,16 @@ pub const CLASSES: [Class; 6] = [
             damaged_cases(amounts, seed, each);
         },
     },
+    Class {
+        name: "twice",
+        covers: twice::COVERS,
+        cases: |amounts, seed, each| {
+            twice_pairs(amounts, seed, &mut |pair| {
+                each(pair.once.case);
+                each(pair.twice.case);
+            });
+        },
+    },
 ];
 
 fn long_cases(amounts: &Amounts, seed: u64, each: &mut dyn FnMut(Case)) {
@@ -128,6 +146,17 @@ fn long_cases(amounts: &Amounts, seed: u64, each: &mut dyn FnMut(Case)) {
         };
         let length = times * amounts.long_length;
         each(long::case(&mut random, mood, length, amounts.long_output));
+    }
+}
+
+/// The scripts of the class `twice`, as pairs.
+pub fn twice_pairs(amounts: &Amounts, seed: u64, each: &mut dyn FnMut(Pair)) {
+    if amounts.large {
+        twice::pairs(each);
+    }
+    let mut random = Random::new(seed.rotate_left(16));
+    for _ in 0..amounts.pairs {
+        each(twice::random_pair(&mut random));
     }
 }
 

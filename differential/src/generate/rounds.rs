@@ -3,12 +3,14 @@
 use super::build::Case;
 use super::long::{self, Mood};
 use super::random::Random;
-use super::{Amounts, damaged_cases, long_cases};
+use super::twice::Pair;
+use super::{Amounts, damaged_cases, long_cases, twice_pairs};
 
 /// The scripts that need no chance.
 pub const FIXED: Amounts = Amounts {
     long_scripts: 0,
     damaged_scripts: 0,
+    pairs: 0,
     ..Amounts::MILLION
 };
 
@@ -16,6 +18,8 @@ pub const FIXED: Amounts = Amounts {
 const ROUND: Amounts = Amounts {
     long_scripts: 12,
     damaged_scripts: 24,
+    pairs: 2,
+    large: false,
     ..Amounts::MILLION
 };
 
@@ -27,9 +31,19 @@ const WIDE: usize = 24;
 /// the others, and the wide ones come on top.
 pub const CALLS: u64 = ((ROUND.long_scripts + 3 + FLOWING) * ROUND.long_length) as u64;
 
-/// The random scripts of one round; each round of a seed has its own.
+/// The seed of one round; each round of a seed has its own.
+fn seed_of(seed: u64, round: u64) -> u64 {
+    Random::new(Random::new(seed).next() ^ round).next()
+}
+
+/// The pairs of one round.
+pub fn pairs(seed: u64, round: u64, each: &mut dyn FnMut(Pair)) {
+    twice_pairs(&ROUND, seed_of(seed, round), each);
+}
+
+/// The other random scripts of one round.
 pub fn cases(seed: u64, round: u64, each: &mut dyn FnMut(Case)) {
-    let seed = Random::new(Random::new(seed).next() ^ round).next();
+    let seed = seed_of(seed, round);
     long_cases(&ROUND, seed, each);
     damaged_cases(&ROUND, seed, each);
     let mut random = Random::new(seed.rotate_left(32));

@@ -8,7 +8,10 @@ use crate::beside::Beside;
 use crate::counts::Counts;
 use crate::drive::Drive;
 use crate::generate::build::Case;
-use crate::generate::{CLASSES, rounds};
+use crate::generate::twice::Pair;
+use crate::generate::{CLASSES, rounds, twice_pairs};
+use crate::reconnects::Reconnects;
+use crate::run::{Observer, answers_of};
 use crate::shrink::describe;
 
 /// If both drives are asked for, one of so many scripts is also carried out by value.
@@ -38,6 +41,7 @@ pub enum Drives {
 pub struct Found {
     in_place: Counts,
     by_value: Counts,
+    reconnects: Reconnects,
     differences: Vec<String>,
     seconds: f64,
 }
@@ -57,6 +61,7 @@ impl Campaign {
             let part = worker.join().map_err(|_| "a thread was ended")?;
             found.in_place.add(&part.in_place);
             found.by_value.add(&part.by_value);
+            found.reconnects.add(&part.reconnects);
             found.differences.extend(part.differences);
         }
         found.seconds = begun.elapsed().as_secs_f64();
@@ -80,6 +85,8 @@ impl Found {
                 wrong.extend(faults.map(|fault| format!("{drive}: {fault}")));
             }
         }
+        say!("{}\n", self.reconnects);
+        wrong.extend(self.reconnects.missing());
         for text in &self.differences {
             say!("{text}");
         }
@@ -105,6 +112,7 @@ struct Worker {
     number: u64,
     in_place: Beside,
     by_value: Beside,
+    reconnects: Reconnects,
     differences: Vec<String>,
 }
 
@@ -115,6 +123,7 @@ impl Worker {
             number,
             in_place: Beside::new(super::run, Drive::InPlace),
             by_value: Beside::new(super::run, Drive::ByValue),
+            reconnects: Reconnects::default(),
             differences: Vec::new(),
         }
     }
@@ -125,6 +134,7 @@ impl Worker {
         Found {
             in_place: self.in_place.observer.counts,
             by_value: self.by_value.observer.counts,
+            reconnects: self.reconnects,
             differences: self.differences,
             seconds: 0.0,
         }
@@ -143,6 +153,12 @@ impl Worker {
                 place += 1;
             });
         }
+        twice_pairs(&rounds::FIXED, 0, &mut |pair| {
+            if place % threads == self.number {
+                self.reconnects(&pair, true);
+            }
+            place += 1;
+        });
     }
 
     fn rounds(&mut self) {
@@ -159,6 +175,13 @@ impl Worker {
                 self.compare(case, place % SHARE == 0);
                 place += 1;
             });
+            rounds::pairs(seed, round, &mut |pair| {
+                let shared = place % SHARE == 0;
+                self.reconnects(&pair, shared);
+                self.compare(pair.once.case, shared);
+                self.compare(pair.twice.case, shared);
+                place += 1;
+            });
             if self.has_enough() {
                 break;
             }
@@ -169,13 +192,37 @@ impl Worker {
         self.differences.len() >= ENOUGH
     }
 
-    /// Compares a script in the ways that are asked for; `shared` is whether it is one of those
-    /// that both drives carry out.
-    fn compare(&mut self, mut case: Case, shared: bool) {
-        let (in_place, by_value) = match self.campaign.drives {
+    /// Whether a script is carried out in place, and whether by value; `shared` is whether it is
+    /// one of those that both drives carry out.
+    fn wanted(&self, shared: bool) -> (bool, bool) {
+        match self.campaign.drives {
             Drives::Both => (true, shared),
             Drives::Only(drive) => (drive == Drive::InPlace, drive == Drive::ByValue),
-        };
+        }
+    }
+
+    /// Compares what follows two reconnects with what follows one, in the Rust and in the ways
+    /// that are asked for.
+    fn reconnects(&mut self, pair: &Pair, shared: bool) {
+        let (in_place, by_value) = self.wanted(shared);
+        let mut observer = Observer::default();
+        let mut rust = |script: &[u8], output| answers_of(script, output, &mut observer);
+        let found = self.reconnects.difference(pair, &mut rust);
+        self.differences
+            .extend(found.map(|text| format!("the Rust: {text}")));
+        for (drive, wanted) in [(Drive::InPlace, in_place), (Drive::ByValue, by_value)] {
+            if wanted {
+                let mut port = |script: &[u8], output| super::answers(script, output, drive);
+                let found = self.reconnects.difference(pair, &mut port);
+                self.differences
+                    .extend(found.map(|text| format!("{drive}: {text}")));
+            }
+        }
+    }
+
+    /// Compares a script in the ways that are asked for.
+    fn compare(&mut self, mut case: Case, shared: bool) {
+        let (in_place, by_value) = self.wanted(shared);
         if self.has_enough() {
             return;
         }

@@ -11,6 +11,7 @@ use attack::Attack;
 use campaign::{Campaign, Drives};
 
 use crate::drive::Drive;
+use crate::run::UNTOUCHED;
 
 unsafe extern "C" {
     /// `tevrulig_run(script, output)`, exported by the crate `host_c`: each slice is a pointer and a length.
@@ -35,6 +36,16 @@ fn run(script: &[u8], output: &mut [u8]) -> usize {
     let (at, length) = (output.as_mut_ptr(), output.len());
     // SAFETY: both slices are whole and apart from each other, and the function keeps neither.
     unsafe { tevrulig_run(script.as_ptr(), script.len(), at, length) }
+}
+
+/// The port's answers to a script, with an output of this length.
+fn answers(script: &[u8], output: usize, drive: Drive) -> Vec<u8> {
+    let mut script = script.to_vec();
+    drive.set(&mut script);
+    let mut answers = vec![UNTOUCHED; output];
+    let length = run(&script, &mut answers);
+    answers.truncate(length);
+    answers
 }
 
 /// Carries out a command that needs the port; `None` if it is none of them.

@@ -1,0 +1,52 @@
+// The line breaks twice before a frame is out (document 01, 'receipts, errors, snapshot, replay'; document 02, K14).
+use crate::story;
+use crate::tour::Tour;
+use crate::words::{Answered, entries};
+use rules::blank::no_entry;
+use std::fmt::{self, Display, Formatter};
+use std::io;
+use tables::snapshot::Snapshot;
+
+// As many entries as are pending at the most.
+const TABLE: usize = 2;
+
+#[derive(Clone, Copy)]
+struct Cut(Snapshot);
+
+impl Display for Cut {
+    fn fmt<W: fmt::Write>(&self, f: &mut Formatter<W>) -> fmt::Result {
+        write!(
+            f,
+            "{} dropped, {} put back",
+            entries(self.0.dropped as u64),
+            self.0.replay
+        )
+    }
+}
+
+impl<P: Print> Tour<'_, P> {
+    // A snapshot, and the replay of all that it hands out to be sent again.
+    fn reconnect(&mut self, what: &str) -> io::Result<()> {
+        let mut dropped = [no_entry(); TABLE];
+        let mut replay = [no_entry(); TABLE];
+        let cut = self.state.snapshot_pending_sends(&mut dropped, &mut replay);
+        let count = cut.answer.map_or(0, |n| n.replay);
+        let again = cut.state.replay_snapshots(&replay[..count.min(TABLE)]);
+        self.state = again.state;
+        let answer = Answered(again.answer.and_then(|()| cut.answer.map(Cut)));
+        print!(self.out; "{what}: {answer}; ")?;
+        self.say_standing()
+    }
+
+    // The first drops the message that joined a batch, and the chunks start anew; the second changes nothing.
+    pub fn reconnect_twice(&mut self) -> io::Result<()> {
+        print!(self.out; "the rate table")?;
+        self.send(story::rate_table())?;
+        print!(self.out; "a quote")?;
+        self.send(story::quote())?;
+        self.take()?;
+        self.say_standing()?;
+        self.reconnect("a reconnect")?;
+        self.reconnect("another one")
+    }
+}
