@@ -1,10 +1,12 @@
-// A program of one's own over `producer`: one message goes out, and its frame is shown.
+// A program of one's own over `producer`: one message goes out, and its frame is shown; then the line breaks twice.
 #![tactic(auto)]
 
 mod first;
+mod reconnect;
 
 use first::first_message;
-use rules::blank::no_message;
+use reconnect::reconnect_twice;
+use rules::blank::{no_entry, no_message};
 use std::io;
 use types::message::{OutgoingMessage, Part};
 use types::types::ProducerHandle;
@@ -17,15 +19,23 @@ fn main(rt: HostRuntime) -> io::Result<()> {
     };
     let mut buffer = [0; 64];
     let handle = ProducerHandle(7);
-    let first = first_message(handle, b"quote", quote, [0; 16], 1, &mut buffer);
+    let mut first = first_message(handle, b"quote", quote, [0; 16], 1, &mut buffer);
     match first.taken {
         Ok(f) => {
             print!(rt; "the frame of quote:")?;
             for byte in buffer.iter().take(f.payload_len) {
                 print!(rt; " {byte:02x}")?;
             }
-            println!(rt)
+            println!(rt)?;
         }
+        Err(e) => println!(rt; "refused by {}", e.number())?,
+    }
+    let twice = reconnect_twice(&mut first.state, &mut [no_entry(); 1], &mut [no_entry(); 1]);
+    match twice.snapshot {
+        Ok(n) => println!(rt;
+            "two reconnects: {} dropped, {} put back",
+            n.dropped, n.replay
+        ),
         Err(e) => println!(rt; "refused by {}", e.number()),
     }
 }

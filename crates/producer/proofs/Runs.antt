@@ -64,17 +64,19 @@ code_in_chunks store handle cs u frames waiting messages run is64 covered waits 
     rw r.frames (chunk_rule store handle cs waiting is64 covered (as_waiting r waits))
 
 pub code_twice : CodeTwice
-code_twice start cut first between last droppedRoom replayRoom droppedRoom₂ replayRoom₂ tables again replayed one two room three four =
+code_twice start first last droppedRoom replayRoom droppedRoom₂ replayRoom₂ tables again replayed one room two =
     let q = view start in
+    let p = view one.cut in
     let table = tables.1.entries in
-    let s = snapshot_is droppedRoom replayRoom q (view cut) tables (sym one) in
-    let handed_out : tables ≡ (handed tables.0.entries, handed table) = s.tables_are ∙ sym (λ j. (handed (s.tables_are j).0.entries, handed (s.tables_are j).1.entries)) in
-    let first_is : snapshot_pending_sends droppedRoom replayRoom q ≡ (view cut, done (handed tables.0.entries, handed table)) =
-    sym one ∙ ap (λ t. (view cut, done t)) handed_out in
-    let w = twice_rule q (view cut) (view first) droppedRoom replayRoom droppedRoom₂ replayRoom₂ tables.0.entries table first_is (sym two) room in
-    let snap = three ∙ w.snapshot in
+    let s = snapshot_is droppedRoom replayRoom q p tables (sym one.snapshot_met) in
+    let whole : tables ≡ (handed tables.0.entries, handed table) =
+    s.tables_are ∙ sym (λ j. (handed (s.tables_are j).0.entries, handed (s.tables_are j).1.entries)) in
+    let cut : snapshot_pending_sends droppedRoom replayRoom q ≡ (p, done (handed tables.0.entries, handed table)) =
+    sym one.snapshot_met ∙ ap (λ t. (p, done t)) whole in
+    let w = twice_rule q p (view first) droppedRoom replayRoom droppedRoom₂ replayRoom₂ tables.0.entries table cut (sym one.replay_met) room in
+    let snap = two.snapshot_met ∙ w.snapshot in
     let answer : again ≡ done (handed [], handed (map mark table)) = ap (λ o. o.1) snap in
-    let at : view between ≡ w.between = ap (λ o. o.0) snap in
-    let met = rw answer at four in
+    let at : view two.cut ≡ w.between = ap (λ o. o.0) snap in
+    let met = rw answer at two.replay_met in
     let rep = met ∙ ap (replay_snapshots (map mark table)) at ∙ w.replay in
     record { snapshot = answer; replay = ap (λ o. o.1) rep; same = ap (λ o. o.0) rep }

@@ -70,21 +70,25 @@ abbrev pub replay_table : Answer (Handed × Handed) → List OpSend
 replay_table (done tables) = tables.1.entries
 replay_table (refused n values) = []
 
--- K14: what the second reconnect answers, and that it leaves what the first left
-pub record TwiceMet (first last : ProducerState) (table : List OpSend) (again : Answer (Handed × Handed)) (replayed : Answer (Unit {0})) : Type 0 where
-  pub snapshot : again ≡ done (handed [], handed (map mark table))
+-- a reconnect, with tables of these lengths: a snapshot and the replay of its whole replay table, each meeting its method's contract, with no call
+-- between
+pub record Reconnect (droppedRoom replayRoom : ℕ) (before after : ProducerState) (tables : Answer (Handed × Handed)) (replayed : Answer (Unit {0})) : Type 0 where
+  pub cut : ProducerState
+  pub snapshot_met : Meets [] (snapshot droppedRoom replayRoom) before cut tables
+  pub replay_met : Meets [] (replay (replay_table tables)) cut after replayed
+
+-- K14: what the second of two reconnects answers, and that it leaves what the first left
+pub record TwiceMet (first last : ProducerState) (table : List OpSend) (tables : Answer (Handed × Handed)) (replayed : Answer (Unit {0})) : Type 0 where
+  pub snapshot : tables ≡ done (handed [], handed (map mark table))
   pub replay : replayed ≡ done tt
   pub same : view last ≡ view first
 
--- of any states and answers in which the four calls meet their methods' contracts, one after the other: the first two are done, each replay is of
--- the whole table that the snapshot before it handed out, and the second snapshot has room for as many entries as the first handed out
+-- from any state: the first reconnect is carried out, and the second has room for as many entries as the first put back
 abbrev pub CodeTwice : Type 0
 CodeTwice =
-    (start cut first between last : ProducerState) (droppedRoom replayRoom droppedRoom₂ replayRoom₂ : ℕ) (tables : Handed × Handed)
-    (again : Answer (Handed × Handed)) (replayed : Answer (Unit {0}))
-    → Meets [] (snapshot droppedRoom replayRoom) start cut (done tables)
-    → Meets [] (replay tables.1.entries) cut first (done tt)
+    (start first last : ProducerState) (droppedRoom replayRoom droppedRoom₂ replayRoom₂ : ℕ) (tables : Handed × Handed) (again : Answer (Handed × Handed))
+    (replayed : Answer (Unit {0}))
+    → Reconnect droppedRoom replayRoom start first (done tables) (done tt)
     → length tables.1.entries ≤ replayRoom₂
-    → Meets [] (snapshot droppedRoom₂ replayRoom₂) first between again
-    → Meets [] (replay (replay_table again)) between last replayed
+    → Reconnect droppedRoom₂ replayRoom₂ first last again replayed
     → TwiceMet first last tables.1.entries again replayed
