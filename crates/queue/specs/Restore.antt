@@ -1,5 +1,4 @@
--- A snapshot, and then the replay of its table (document 01, 'receipts, errors, snapshot, replay'), and the two done twice in a row (document 02,
--- K14).
+-- A snapshot and then the replay of its table (document 01, 'receipts, errors, snapshot, replay'), once and twice in a row (document 02, K14).
 use Rattle.std.specs.Prelude.{ℕ, ◌≤◌, ◌≡◌, true, List, [], map, length}
 use Rattle.types.specs.declared.entry.OpSend.{OpSend}
 use Rattle.types.specs.declared.types.ProducerHandle.{ProducerHandle}
