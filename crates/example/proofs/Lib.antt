@@ -1,3 +1,3 @@
 pub mod ReadsBack
 pub mod Ranges
-pub mod Twice
+pub mod Reconnects

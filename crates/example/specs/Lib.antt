@@ -1,1 +1,1 @@
-pub mod AsOnce
+pub mod Reconnects

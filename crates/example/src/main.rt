@@ -31,7 +31,7 @@ fn main(rt: HostRuntime) -> io::Result<()> {
         Err(e) => println!(rt; "refused by {}", e.number())?,
     }
     let twice = reconnect_twice(&mut first.state, &mut [no_entry(); 1], &mut [no_entry(); 1]);
-    match twice.snapshot {
+    match twice {
         Ok(n) => println!(rt;
             "two reconnects: {} dropped, {} put back",
             n.dropped, n.replay

@@ -1,48 +1,35 @@
 // A line that breaks twice in a row: where the first reconnect is carried out, the second changes nothing (docs/ORDER.md,
 // 'Reconnecting').
-ghost use Rattle.std.specs.Prelude.{◌≡◌, [], length, IfOk};
-ghost use Rattle.queue.specs.Told.{told};
-ghost use Rattle.producer.specs.Runs.{Reconnect, replay_table};
-ghost use Rattle.producer.specs.Tables.{told_snapshot};
-ghost use Rattle.example.specs.AsOnce.{AsOnce};
+ghost use Rattle.std.specs.Prelude.{◌≡◌, take};
+ghost use Rattle.example.specs.Reconnects.{Ended, AsOnce};
 
 use producer::state::ProducerState;
 use tables::snapshot::Snapshot;
 use types::entry::OpSend;
 use types::error::ProducerError;
 
-#[derive(Clone, Copy)]
-pub struct Reconnected {
-    pub snapshot: Result<Snapshot, ProducerError>,
-    pub replayed: Result<(), ProducerError>,
-}
-
-// All that a snapshot has written to its replay table.
-fn written(snapshot: Result<Snapshot, ProducerError>, replay: &[OpSend]) -> &[OpSend]
-    ensures { result.now ≡ replay_table (told_snapshot snapshot [] replay.now) }
+// What a snapshot has written to its replay table.
+fn written(counts: Snapshot, replay: &[OpSend]) -> &[OpSend]
+    ensures { result.now ≡ take counts.replay replay.now }
 {
-    match snapshot {
-        Ok(n) => &replay[..n.replay.min(replay.len())],
-        Err(_) => &[],
-    }
+    &replay[..counts.replay.min(replay.len())]
 }
 
-// A snapshot, and the replay of all that it hands out to be sent again.
+// A snapshot, and the replay of all that it hands out to be sent again. A snapshot that is refused ends it, and nothing has
+// changed; behind a replay that is refused, what was pending stands in the tables alone.
 pub fn reconnect(
     state: &mut ProducerState,
     dropped: &mut [OpSend],
     replay: &mut [OpSend],
-) -> Reconnected
-    ensures { Reconnect (length dropped.old) (length replay.old) state.old state.new
-        (told_snapshot result.snapshot dropped.new replay.new) (told result.replayed) }
+) -> Result<Snapshot, ProducerError>
+    ensures { Ended dropped.old replay.old state.old state.new dropped.new replay.new result }
 {
     let cut = state.snapshot_pending_sends(dropped, replay);
-    let again = cut.state.replay_snapshots(written(cut.answer, replay));
+    let counts = cut.answer?;
+    let again = cut.state.replay_snapshots(written(counts, replay));
     *state = again.state;
-    Reconnected {
-        snapshot: cut.answer,
-        replayed: again.answer,
-    }
+    again.answer?;
+    Ok(counts)
 }
 
 // Both reconnects, with the same tables; it answers what the first does.
@@ -50,10 +37,10 @@ pub fn reconnect_twice(
     state: &mut ProducerState,
     dropped: &mut [OpSend],
     replay: &mut [OpSend],
-) -> Reconnected
-    ensures { IfOk result.snapshot (λ n. IfOk result.replayed (λ u. AsOnce (length dropped.old) (length replay.old) state.old state.new)) }
+) -> Result<Snapshot, ProducerError>
+    ensures { AsOnce dropped.old replay.old state.old state.new result }
 {
-    let first = reconnect(state, dropped, replay);
-    reconnect(state, dropped, replay);
-    first
+    let first = reconnect(state, dropped, replay)?;
+    reconnect(state, dropped, replay)?;
+    Ok(first)
 }

@@ -1,10 +1,11 @@
 -- A run of the code has the view, the frames and the accepted messages of the run of definitions, by induction over its calls. Assumes nothing.
 use Rattle.std.specs.Prelude.{Some}
-use Rattle.std.proofs.Common.{◌≡◌, ℕ, List, [], ◌++◌, map, sym, refl, ap, ◌∙◌, subst}
+use Rattle.std.proofs.Common.{◌≡◌, ℕ, ◌≤◌, List, [], ◌++◌, map, length, sym, refl, ap, ◌∙◌, subst}
 use Rattle.queue.specs.Queue.{Queue, Outcome, done, new_queue}
 use Rattle.queue.specs.Frame.{Frame}
 use Rattle.queue.specs.Message.{Message}
-use Rattle.queue.specs.Settle.{handed}
+use Rattle.queue.specs.Restore.{Twice}
+use Rattle.queue.specs.Settle.{Handed, handed}
 use Rattle.queue.specs.Tables.{mark, snapshot_pending_sends, replay_snapshots}
 use Rattle.queue.specs.Run.{Call, Gives, step, after, taken, accepted, frame_of, accepted_by, Waiting}
 use Rattle.queue.specs.Read.{read}
@@ -13,7 +14,7 @@ use Rattle.queue.proofs.Order.{order_rule, chunk_rule}
 use Rattle.queue.proofs.Restore.{snapshot_is}
 use Rattle.queue.proofs.Twice.{twice_rule}
 use Rattle.producer.specs.View.{view}
-use Rattle.producer.specs.Runs.{Run, end, call, RunOfNew, CodeInOrder, CodeSameFrames, CodeInChunks, CodeTwice}
+use Rattle.producer.specs.Runs.{Run, end, call, RunOfNew, Reconnect, CodeInOrder, CodeSameFrames, CodeInChunks, CodeTwice}
 use Rattle.producer.specs.declared.state.ProducerState.{ProducerState}
 
 -- what the definitions say of a run from this queue
@@ -63,8 +64,12 @@ code_in_chunks store handle cs u frames waiting messages run is64 covered waits 
     let r = of_new run in
     rw r.frames (chunk_rule store handle cs waiting is64 covered (as_waiting r waits))
 
-pub code_twice : CodeTwice
-code_twice start first last droppedRoom replayRoom droppedRoom₂ replayRoom₂ tables again replayed one room two =
+-- behind a reconnect that is carried out, what the second does to the view
+pub twice_view : (start first : ProducerState) (droppedRoom replayRoom droppedRoom₂ replayRoom₂ : ℕ) (tables : Handed × Handed)
+    → Reconnect droppedRoom replayRoom start first (done tables) (done tt)
+    → length tables.1.entries ≤ replayRoom₂
+    → Twice (view first) droppedRoom₂ replayRoom₂ tables.1.entries
+twice_view start first droppedRoom replayRoom droppedRoom₂ replayRoom₂ tables one room =
     let q = view start in
     let p = view one.cut in
     let table = tables.1.entries in
@@ -73,7 +78,12 @@ code_twice start first last droppedRoom replayRoom droppedRoom₂ replayRoom₂ 
     s.tables_are ∙ sym (λ j. (handed (s.tables_are j).0.entries, handed (s.tables_are j).1.entries)) in
     let cut : snapshot_pending_sends droppedRoom replayRoom q ≡ (p, done (handed tables.0.entries, handed table)) =
     sym one.snapshot_met ∙ ap (λ t. (p, done t)) whole in
-    let w = twice_rule q p (view first) droppedRoom replayRoom droppedRoom₂ replayRoom₂ tables.0.entries table cut (sym one.replay_met) room in
+    twice_rule q p (view first) droppedRoom replayRoom droppedRoom₂ replayRoom₂ tables.0.entries table cut (sym one.replay_met) room
+
+pub code_twice : CodeTwice
+code_twice start first last droppedRoom replayRoom droppedRoom₂ replayRoom₂ tables again replayed one room two =
+    let table = tables.1.entries in
+    let w = twice_view start first droppedRoom replayRoom droppedRoom₂ replayRoom₂ tables one room in
     let snap = two.snapshot_met ∙ w.snapshot in
     let answer : again ≡ done (handed [], handed (map mark table)) = ap (λ o. o.1) snap in
     let at : view two.cut ≡ w.between = ap (λ o. o.0) snap in

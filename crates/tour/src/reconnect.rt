@@ -25,16 +25,21 @@ impl Display for Cut {
 }
 
 impl<P: Print> Tour<'_, P> {
-    // A snapshot, and the replay of all that it hands out to be sent again.
+    // A snapshot, and the replay of all that it hands out to be sent again; a refused one ends it.
     fn reconnect(&mut self, what: &str) -> io::Result<()> {
         let mut dropped = [no_entry(); TABLE];
         let mut replay = [no_entry(); TABLE];
         let cut = self.state.snapshot_pending_sends(&mut dropped, &mut replay);
-        let count = cut.answer.map_or(0, |n| n.replay);
-        let again = cut.state.replay_snapshots(&replay[..count.min(TABLE)]);
-        self.state = again.state;
-        let answer = Answered(again.answer.and_then(|()| cut.answer.map(Cut)));
-        print!(self.out; "{what}: {answer}; ")?;
+        self.state = cut.state;
+        let answer = match cut.answer {
+            Ok(n) => {
+                let again = self.state.replay_snapshots(&replay[..n.replay.min(TABLE)]);
+                self.state = again.state;
+                again.answer.map(|()| Cut(n))
+            }
+            Err(e) => Err(e),
+        };
+        print!(self.out; "{what}: {}; ", Answered(answer))?;
         self.say_standing()
     }
 
