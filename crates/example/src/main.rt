@@ -6,7 +6,8 @@ mod reconnect;
 
 use first::first_message;
 use reconnect::reconnect_twice;
-use rules::blank::{no_entry, no_message};
+use rows::entry::OpSendRow;
+use rules::blank::no_message;
 use std::io;
 use types::message::{OutgoingMessage, Part};
 use types::types::ProducerHandle;
@@ -30,7 +31,11 @@ fn main(rt: HostRuntime) -> io::Result<()> {
         }
         Err(e) => println!(rt; "refused by {}", e.number())?,
     }
-    let twice = reconnect_twice(&mut first.state, &mut [no_entry(); 1], &mut [no_entry(); 1]);
+    let twice = reconnect_twice(
+        &mut first.state,
+        &mut [OpSendRow::blank(); 1],
+        &mut [OpSendRow::blank(); 1],
+    );
     match twice {
         Ok(n) => println!(rt;
             "two reconnects: {} dropped, {} put back",

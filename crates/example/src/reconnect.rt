@@ -4,12 +4,12 @@ ghost use Rattle.std.specs.Prelude.{◌≡◌, take};
 ghost use Rattle.example.specs.Reconnects.{Ended, AsOnce};
 
 use producer::state::ProducerState;
+use rows::entry::OpSendRow;
 use tables::snapshot::Snapshot;
-use types::entry::OpSend;
 use types::error::ProducerError;
 
 // What a snapshot has written to its replay table.
-fn written(counts: Snapshot, replay: &[OpSend]) -> &[OpSend]
+fn written(counts: Snapshot, replay: &[OpSendRow]) -> &[OpSendRow]
     ensures { result.now ≡ take counts.replay replay.now }
 {
     &replay[..counts.replay.min(replay.len())]
@@ -19,8 +19,8 @@ fn written(counts: Snapshot, replay: &[OpSend]) -> &[OpSend]
 // changed; behind a replay that is refused, what was pending stands in the tables alone.
 pub fn reconnect(
     state: &mut ProducerState,
-    dropped: &mut [OpSend],
-    replay: &mut [OpSend],
+    dropped: &mut [OpSendRow],
+    replay: &mut [OpSendRow],
 ) -> Result<Snapshot, ProducerError>
     ensures { Ended dropped.old replay.old state.old state.new dropped.new replay.new result }
 {
@@ -35,8 +35,8 @@ pub fn reconnect(
 // Both reconnects, with the same tables; it answers what the first does.
 pub fn reconnect_twice(
     state: &mut ProducerState,
-    dropped: &mut [OpSend],
-    replay: &mut [OpSend],
+    dropped: &mut [OpSendRow],
+    replay: &mut [OpSendRow],
 ) -> Result<Snapshot, ProducerError>
     ensures { AsOnce dropped.old replay.old state.old state.new result }
 {

@@ -1,18 +1,23 @@
 -- The loops over the messages of a batch frame, which are the first of the held ring: their parts and lengths, and their items. Assumes nothing.
 use Prim.Native.Nat.{ℕ, ◌+◌, ◌<◌, ◌≤◌, ◌^◌, min}
 use mathlib.Core.Bool.{Bool, true, false, ◌&&◌}
-use mathlib.Core.List.{List, [], ◌∷◌, ◌++◌}
+use mathlib.Core.List.{List, [], ◌∷◌, ◌++◌, map}
 use mathlib.Core.Path.{◌≡◌, ap, sym, subst, ◌∙◌}
 use native.Mathlib.Omega.{arith}
 use native.Mathlib.Numerals.{add-one}
 use lib.Dec.{lit<}
-use lib.ListN.{length, drop, get_or, drop_of_length-le}
+use lib.ListN.{length, drop, get_or, drop_of_length-le, get_or-eq_default, length-map}
+use Rattle.std.proofs.lemmas.List as lists
+use native.Mathlib.Decide.{dec_lt}
 use lib.Seq.{drop-cons}
 use Rattle.std.specs.Prelude.{Some, None}
 use Rattle.laws.specs.Choice.{pick}
 use Rattle.laws.specs.Numbers.{add_sat}
 use Rattle.laws.specs.Ring.{ring, slot}
 use Rattle.laws.proofs.Rings.{length_ring, ring_at}
+use Rattle.laws.proofs.Slots.{slot_below}
+use Rattle.rows.specs.Message.{decode_single}
+use Rattle.rows.specs.declared.message.SingleRow.{SingleRow}
 use Rattle.types.specs.Values.{part_in, maybe_in}
 use Rattle.types.specs.declared.message.SingleMessage.{SingleMessage}
 use Rattle.wire.specs.Batch.{item, item_of, batch_payload, All, InStore}
@@ -98,18 +103,33 @@ module _ (held : List SingleMessage) (full : length held ≡ held_size) (h k : �
   pub held_length : length (ring held_size held h k) ≡ min k held_size
   held_length = length_ring held_size (lit< tt) held full h k
 
-  -- the messages as a loop reads them, each at its slot
-  pub held_at : (i at : ℕ) (d : SingleMessage) → at ≡ slot held_size h i → i < min k held_size → get_or (ring held_size held h k) i d ≡ get_or held at d
-  held_at i at d q b = ring_at held_size (lit< tt) held full d h k i b ∙ ap (λ (j : ℕ). get_or held j d) (sym q)
+-- a row of the ring's slots, and the message that it stands for
+pub held_there : (rows : List SingleRow) → length rows ≡ held_size → (h k i at : ℕ) (d : SingleRow) (m : SingleMessage) → at ≡ slot held_size h i
+    → m ≡ decode_single (get_or rows at d) → get_or (ring held_size (map decode_single rows) h k) i m ≡ m
+held_there rows full h k i at d m q e = go (dec_lt i (min k held_size))
+  where
+    ms : List SingleMessage
+    ms = map decode_single rows
 
-  module _ (store : List ℕ) (i at : ℕ) (d : SingleMessage) (q : at ≡ slot held_size h i) (b : i < min k held_size) where
-    pub held_in_lem : all_in (length store) (ring held_size held h k) ≡ true → InStore (length store) (get_or held at d)
-    held_in_lem e =
-        subst (InStore (length store)) (held_at i at d q b)
-        (all_at (InStore (length store)) (ring held_size held h k) i d (all_in_lem (length store) (ring held_size held h k) e) (omega (arith, held_length)))
+    long : length ms ≡ held_size
+    long = length-map rows decode_single ∙ full
 
-    pub held_next : batch_payload store (drop i (ring held_size held h k))
-        ≡ item (item_of store (get_or held at d)) ++ batch_payload store (drop (i + 1) (ring held_size held h k))
-    held_next =
-        batch_step store (ring held_size held h k) i d (omega (arith, held_length))
-        ∙ ap (λ (m : SingleMessage). item (item_of store m) ++ batch_payload store (drop (i + 1) (ring held_size held h k))) (held_at i at d q b)
+    below : at < length rows
+    below = omega (arith, q, slot_below held_size h i (lit< tt), full)
+
+    go : Dec (i < min k held_size) → get_or (ring held_size ms h k) i m ≡ m
+    go (yes b) =
+        ring_at held_size (lit< tt) ms long m h k i b
+        ∙ ap (λ (j : ℕ). get_or ms j m) (sym q)
+        ∙ lists.get_or-map decode_single rows at d m below
+        ∙ sym e
+    go (no b) = get_or-eq_default (ring held_size ms h k) m (omega (arith, held_length ms long h k))
+
+-- the messages as a loop reads them
+module _ (store : List ℕ) (ms : List SingleMessage) (i : ℕ) (m : SingleMessage) (there : get_or ms i m ≡ m) (b : i < length ms) where
+  pub held_in_lem : all_in (length store) ms ≡ true → InStore (length store) m
+  held_in_lem e = subst (InStore (length store)) there (all_at (InStore (length store)) ms i m (all_in_lem (length store) ms e) b)
+
+  pub held_next : batch_payload store (drop i ms) ≡ item (item_of store m) ++ batch_payload store (drop (i + 1) ms)
+  held_next =
+      batch_step store ms i m b ∙ ap (λ (x : SingleMessage). item (item_of store x) ++ batch_payload store (drop (i + 1) ms)) there

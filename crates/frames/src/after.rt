@@ -1,8 +1,8 @@
 // What is left of the front record.
 ghost use Rattle.std.specs.Prelude.{◌≡◌};
-ghost use Rattle.frames.specs.After.{has_next, stays_of, record_after};
+ghost use Rattle.frames.specs.After.{has_next, stays_of, kind_after};
 
-use types::frame::{ChunkedMessageContext, FrameKind, FrameRecord};
+use types::frame::{ChunkedMessageContext, FrameKind};
 
 // Whether another chunk follows the next one.
 fn has_next(c: ChunkedMessageContext) -> bool
@@ -18,17 +18,15 @@ pub fn stays(kind: FrameKind) -> bool
     matches!(kind, FrameKind::Chunked(c) if has_next(c))
 }
 
-pub fn record_after(front: FrameRecord) -> FrameRecord
-    ensures { result ≡ record_after front front.kind }
+// Which frame of the record is next then.
+pub fn kind_after(kind: FrameKind) -> FrameKind
+    ensures { result ≡ kind_after kind }
 {
-    match front.kind {
-        FrameKind::Chunked(c) if has_next(c) => FrameRecord {
-            kind: FrameKind::Chunked(ChunkedMessageContext {
-                next_chunk: c.next_chunk + 1,
-                ..c
-            }),
-            ..front
-        },
-        _ => front,
+    match kind {
+        FrameKind::Chunked(c) if has_next(c) => FrameKind::Chunked(ChunkedMessageContext {
+            next_chunk: c.next_chunk + 1,
+            ..c
+        }),
+        _ => kind,
     }
 }

@@ -1,6 +1,6 @@
 -- A take writes its payload to the start of the buffer that it is lent. Assumes nothing.
 use Rattle.std.specs.Prelude.{Err, Ok, Result}
-use Rattle.std.proofs.Common.{◌≡◌, ℕ, ◌-◌, ◌≤◌, List, ◌++◌, length, take, drop, refl, ap, ◌∙◌, arith, length-drop, length-take-le, drop_at, zero-le}
+use Rattle.std.proofs.Common.{◌≡◌, ℕ, ◌≤◌, List, length, take, drop, refl, ap, ◌∙◌, arith, length-take-le, drop_at, zero-le}
 use Rattle.types.specs.declared.outbound.OutboundFrame.{OutboundFrame}
 use Rattle.queue.specs.Take.{written}
 use Rattle.queue.specs.Run.{take as take_call}
@@ -10,9 +10,8 @@ use Rattle.producer.specs.View.{view}
 use Rattle.producer.specs.declared.state.ProducerState.{ProducerState}
 use Rattle.producer.proofs.Fits.{frame_fits}
 use Rattle.script.specs.Output.{Wrote}
-use Rattle.host.specs.Framing.{Completes, bytes_taken}
+use Rattle.host.specs.Framing.{bytes_taken}
 use Rattle.script.proofs.Outputs.{nothing}
-use Rattle.host.proofs.Framing.{lent}
 use Rattle.types.specs.declared.error.ProducerError.{ProducerError}
 
 -- what is answered fits the buffer
@@ -22,18 +21,8 @@ pub taken_fits : (store before after : List ℕ) (s t : ProducerState) (a : Resu
 taken_fits store before after s t (Ok f) e own = frame_fits store before after s t f e own
 taken_fits store before after s t (Err r) e own = zero-le
 
--- of a buffer that is a part of an output
-pub part_fits : (d ys store : List ℕ) (start end : ℕ) (s t : ProducerState) (a : Result OutboundFrame ProducerError)
-    → end ≤ length d
-    → Meets store (take_call (length (take (end - start) (drop start d)))) s t (told_frame store ys a) → OwnParts store (view s) (view s).out.frames a
-    → bytes_taken a ≤ end - start
-part_fits d ys store start end s t a k e own =
-    let m : length (take (end - start) (drop start d)) ≡ end - start =
-    length-take-le (end - start) (drop start d) (rw length-drop (omega arith)) in
-    rw m at (taken_fits store (take (end - start) (drop start d)) ys s t a e own)
-
 module _ (store before after : List ℕ) (l : length after ≡ length before) where
-  wrote : (a : Result OutboundFrame ProducerError) → bytes_taken a ≤ length before → after ≡ written (told_frame store after a) before
+  pub wrote : (a : Result OutboundFrame ProducerError) → bytes_taken a ≤ length before → after ≡ written (told_frame store after a) before
       → Wrote 0 before after (bytes_taken a)
   wrote (Ok f) h e =
       let n = f.payload_len in
@@ -49,13 +38,3 @@ module _ (store before after : List ℕ) (l : length after ≡ length before) wh
             ∙ ap (λ (j : ℕ). drop j before) k;
       }
   wrote (Err r) h e = rw e nothing
-
-pub took : {d ys e : List ℕ} {to start end r : ℕ} (store : List ℕ) (a : Result OutboundFrame ProducerError)
-    → bytes_taken a ≤ end - start
-    → ys ≡ written (told_frame store ys a) (take (end - start) (drop start d))
-    → Completes to start (bytes_taken a) (take start d ++ (ys ++ drop (end - start) (drop start d))) e r
-    → start ≤ end → end ≤ length d → length ys ≡ length (take (end - start) (drop start d)) → Wrote to d e r
-took {d} {ys} {e} {to} {start} {end} store a f w c h k l =
-    let m : length (take (end - start) (drop start d)) ≡ end - start =
-    length-take-le (end - start) (drop start d) (rw length-drop (omega arith)) in
-    c d (lent d ys start end h k (wrote store (take (end - start) (drop start d)) ys l a (rw m f) w))

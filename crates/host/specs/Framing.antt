@@ -12,8 +12,3 @@ Completes at start n before after r = (first : List ℕ) → Wrote start first b
 abbrev pub bytes_taken : Result OutboundFrame ProducerError → ℕ
 bytes_taken (Ok f) = f.payload_len
 bytes_taken (Err e) = 0
-
--- how many entries a drain has written to its table
-abbrev pub entries_handed : Result ℕ ProducerError → ℕ
-entries_handed (Ok n) = n
-entries_handed (Err e) = 0

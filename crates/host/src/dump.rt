@@ -9,14 +9,15 @@ use script::write::{Output, low_half};
 pub fn put_dump(s: &ProducerState, out: &mut Output)
     ensures { Writes out.old out.new }
 {
-    let ring = s.core.rings.pending;
+    let core = s.core.decode();
+    let ring = core.rings.pending;
     put_done(out, Call::Dump, ());
-    put_core(out, s.core, s.send_deadline());
+    put_core(out, core, s.send_deadline());
     out.put(low_half(ring.count() as u64));
     for i in 0..ring.count() {
         let at = ring.slot(i);
         let id = s.pending_ids[at];
         // Of the id: one entry that keeps it in the index serves all that bear it.
-        out.put((s.place_of(id).is_some(), id, s.pending[at]));
+        out.put((s.place_of(id).is_some(), id, s.pending[at].decode()));
     }
 }

@@ -1,95 +1,40 @@
-// Each operation by the steps of its public method, on the state where it stands: no ring is copied but for the operations on
-// whole tables, the replays and the dump (docs/DECISIONS.md, 'What a call costs').
+// Each operation on the state where it stands, by the methods on a state that is lent: no ring is copied.
 ghost use Rattle.std.specs.Prelude.{◌≤◌, length};
 ghost use Rattle.script.specs.Output.{Writes};
 
-use crate::call::call;
-use crate::lent::{Table, no_table};
-use crate::plan::{put_settled, query, scalars};
-use crate::run::Drive;
-use crate::take::{buffer_of, put_taken};
+use crate::drive::Drive;
 use crate::task::Task;
+use plans::send::Sending;
+use producer::push::Given;
+use producer::settle::decode_settled;
 use producer::state::ProducerState;
+use rows::entry::OpSendRow;
+use rows::message::MessageRow;
+use script::answer::put_done;
 use script::operation::Call;
 use script::write::Output;
+use tables::snapshot::Snapshot;
+use types::answer::SendDecision;
+use types::command::{CommandSendError, CommandSendReceipt};
+use types::entry::OpSend;
 use types::error::ProducerError;
-use types::types::ProducerHandle;
-use upkeep::pending::unmark;
-use upkeep::stats::published_ids;
-
-// Sends count their ids up from 0. Two entries can bear one id only once a first id was set or entries were replayed.
-fn repeats_ids(call: Call) -> bool {
-    matches!(
-        call,
-        Call::ReplaySnapshots | Call::ReplayLastSnapshot | Call::SetInitialSequenceId
-    )
-}
+use types::outbound::OutboundFrame;
+use types::settings::Setting;
+use types::types::{MessageId, ProducerHandle, SequenceId};
 
 #[derive(Drop)]
 pub(crate) struct InPlace {
     state: ProducerState,
-    // Whether two pending entries may bear one id.
-    repeated: bool,
-    last: Table,
 }
 
-impl InPlace {
-    fn send(&mut self, task: Task, out: &mut Output)
-        ensures { Writes out.old out.new }
-    {
-        let answer = self.state.send(task.lent_to_send(), task.sending());
-        out.put((task.call, answer));
-    }
-
-    fn flush(&mut self, task: Task, out: &mut Output)
-        ensures { Writes out.old out.new }
-    {
-        let answer = self.state.flush(task.arguments.get());
-        out.put((task.call, answer));
-    }
-
-    fn take(&mut self, task: Task, out: &mut Output)
-        requires { out.old.at ≤ length out.old.bytes.now }
-        ensures { Writes out.old out.new }
-    {
-        let lent = task.lent_to_take();
-        let buffer = buffer_of(task, out);
-        let answer = self
-            .state
-            .take_front(lent, &mut out.bytes[buffer.start..buffer.end]);
-        put_taken(out, buffer, lent, answer);
-    }
-
-    // The first entry that bears the id is answered where it stands, and leaves.
-    fn settle(&mut self, task: Task, out: &mut Output)
-        ensures { Writes out.old out.new }
-    {
-        let id = task.arguments.behind(8).get();
-        match self.state.place_of(id) {
-            Some(place) => {
-                let at = self.state.core.rings.pending.slot(place);
-                put_settled(task, out);
-                out.put(id);
-                out.put(self.state.pending[at]);
-                if self.repeated {
-                    unmark(&mut self.state.pending_marks, &self.state.pending_ids, id);
-                }
-                self.state.remove(place);
-                if task.call == Call::ApplyReceipt {
-                    self.state.core.ids = published_ids(self.state.core.ids, id);
-                }
-            }
-            None => out.put((task.call, ProducerError::NotAnswerable)),
-        }
-    }
-
-    // On its own, since its frame, with a whole state in it, is cleared at each call.
-    #[inline(never)]
-    fn by_value(&mut self, task: Task, out: &mut Output)
-        requires { out.old.at ≤ length out.old.bytes.now }
-        ensures { Writes out.old out.new }
-    {
-        call(&mut self.state, &mut self.last, task, out);
+// What comes beside a send's message.
+fn given(a: Sending) -> Given {
+    let uuid = a.uuid;
+    Given {
+        reservation: a.reservation,
+        uuid,
+        publish_time: a.publish_time,
+        now: a.now,
     }
 }
 
@@ -97,44 +42,109 @@ impl Drive for InPlace {
     fn new(handle: ProducerHandle) -> Self {
         InPlace {
             state: ProducerState::new(handle),
-            repeated: false,
-            last: no_table(),
         }
     }
 
-    fn carry_out(&mut self, task: Task, out: &mut Output) {
-        self.repeated = self.repeated | repeats_ids(task.call);
-        match task.call {
-            Call::QueueSendReserved | Call::QueueSend => self.send(task, out),
-            Call::FlushBatch => self.flush(task, out),
-            Call::NextOutboundFrame => self.take(task, out),
-            Call::ApplyReceipt | Call::ApplySendError => self.settle(task, out),
-            Call::DrainTimedOutSends
-            | Call::DrainPendingSends
-            | Call::SnapshotPendingSends
-            | Call::ReplaySnapshots
-            | Call::ReplayLastSnapshot
-            | Call::ReplayPendingOutbound
-            | Call::Dump => self.by_value(task, out),
-            Call::SetInitialSequenceId
-            | Call::SetName
-            | Call::SetMaxMessageSize
-            | Call::SetMaxBatchSizeBytes
-            | Call::SetMaxMessagesInBatch
-            | Call::SetBatchingEnabled
-            | Call::SetChunkingEnabled
-            | Call::SetSendTimeout
-            | Call::SetBatchingMaxPublishDelay
-            | Call::SetBrokerReady
-            | Call::Close => {
-                self.state.core = scalars(self.state.core, task, out);
+    fn queue_send_reserved(
+        &mut self,
+        store: &[u8],
+        a: Sending,
+    ) -> Result<SendDecision, ProducerError> {
+        self.state
+            .send(store, &MessageRow::encode(a.message), given(a))
+    }
+
+    fn queue_send(&mut self, store: &[u8], a: Sending) -> Result<SendDecision, ProducerError> {
+        self.queue_send_reserved(store, a)
+    }
+
+    fn flush_batch(&mut self, publish_time: u64, _now: u64) -> Result<usize, ProducerError> {
+        self.state.flush(publish_time)
+    }
+
+    fn next_outbound_frame(
+        &mut self,
+        store: &[u8],
+        buffer: &mut [u8],
+    ) -> Result<OutboundFrame, ProducerError> {
+        self.state.take(store, buffer)
+    }
+
+    fn apply_receipt(
+        &mut self,
+        receipt: CommandSendReceipt,
+    ) -> Result<(OpSend, MessageId), ProducerError> {
+        decode_settled(self.state.receive(receipt))
+    }
+
+    fn apply_send_error(&mut self, err: CommandSendError) -> Result<(OpSend, i32), ProducerError> {
+        decode_settled(self.state.fail(err))
+    }
+
+    fn drain_timed_out_sends(
+        &mut self,
+        time: u64,
+        table: &mut [OpSendRow],
+    ) -> Result<usize, ProducerError> {
+        self.state.time_out(time, table)
+    }
+
+    fn drain_pending_sends(&mut self, table: &mut [OpSendRow]) -> Result<usize, ProducerError> {
+        self.state.drain(table)
+    }
+
+    fn snapshot_pending_sends(
+        &mut self,
+        dropped: &mut [OpSendRow],
+        replay: &mut [OpSendRow],
+    ) -> Result<Snapshot, ProducerError> {
+        self.state.snapshot(dropped, replay)
+    }
+
+    fn replay_snapshots(&mut self, table: &[OpSendRow]) -> Result<(), ProducerError> {
+        self.state.replay(table)
+    }
+
+    fn replay_pending_outbound(&mut self) -> Result<usize, ProducerError> {
+        self.state.resend()
+    }
+
+    fn set_initial_sequence_id(&mut self, next: SequenceId) {
+        self.state.start_at(next);
+    }
+
+    fn set_name(&mut self, name: &[u8]) -> Result<(), ProducerError> {
+        self.state.rename(name)
+    }
+
+    fn set(&mut self, s: Setting) -> Result<(), ProducerError> {
+        self.state.change(s)
+    }
+
+    fn close(&mut self) {
+        self.state.shut();
+    }
+
+    fn put_asked(&self, task: Task, out: &mut Output) {
+        let call = task.call;
+        match call {
+            Call::NextSendDeadline => put_done(out, call, self.state.send_deadline()),
+            Call::NextBatchDeadline => put_done(out, call, self.state.batch_deadline()),
+            Call::BatchDeadlineElapsed => {
+                put_done(out, call, self.state.is_batch_due(task.arguments.get()))
             }
-            Call::NextSendDeadline
-            | Call::NextBatchDeadline
-            | Call::BatchDeadlineElapsed
-            | Call::CanAddToBatch
-            | Call::OutboundLen
-            | Call::Stats => query(&self.state, task, out),
+            Call::CanAddToBatch => put_done(
+                out,
+                call,
+                self.state
+                    .may_add(task.arguments.get(), task.arguments.behind(8).get()),
+            ),
+            Call::OutboundLen => put_done(out, call, self.state.waiting_count()),
+            _ => put_done(out, call, self.state.statistics()),
         }
+    }
+
+    fn state(&self) -> &ProducerState {
+        &self.state
     }
 }

@@ -1,30 +1,29 @@
-// The operations that are lent tables, through the public methods.
+// The operations that are lent tables.
 ghost use Rattle.std.specs.Prelude.{◌≤◌, length};
-ghost use Rattle.host.specs.Framing.{entries_handed};
+ghost use Rattle.producer.specs.Tables.{handed_count};
 ghost use Rattle.script.specs.Output.{Writes};
 
+use crate::drive::Drive;
 use crate::task::Task;
-use producer::state::ProducerState;
-use rules::blank::no_entry;
+use rows::entry::OpSendRow;
 use rules::rings::Rings;
 use script::answer::put_done;
 use script::operation::{Call, ENTRY, MOST_ENTRIES, entries};
 use script::read::Place;
 use script::write::{Output, low_half};
 use tables::list::Listed;
-use types::entry::OpSend;
 use types::error::ProducerError;
 
-pub(crate) type Table = Listed<OpSend, { MOST_ENTRIES }>;
+pub(crate) type Table = Listed<OpSendRow, { MOST_ENTRIES }>;
 
 // The first entries of a table, as many as are asked for.
-fn first(table: &[OpSend], n: usize) -> &[OpSend] {
+fn first(table: &[OpSendRow], n: usize) -> &[OpSendRow] {
     table.get(..n).unwrap_or(table)
 }
 
 pub(crate) fn no_table() -> Table {
     Listed {
-        items: [no_entry(); MOST_ENTRIES],
+        items: [OpSendRow::blank(); MOST_ENTRIES],
         len: 0,
     }
 }
@@ -32,9 +31,9 @@ pub(crate) fn no_table() -> Table {
 // The table that a script writes out, at its count.
 fn written(place: Place) -> Table {
     let bytes = entries(place);
-    let mut items = [no_entry(); MOST_ENTRIES];
+    let mut items = [OpSendRow::blank(); MOST_ENTRIES];
     for (op, entry) in items.iter_mut().zip(bytes.chunks_exact(ENTRY)) {
-        *op = Place::start(entry).get();
+        *op = OpSendRow::encode(Place::start(entry).get());
     }
     Listed {
         items,
@@ -50,8 +49,13 @@ fn room_at(place: Place) -> usize
 }
 
 // What a drain answers: a count and so many entries of its table, or a refusal.
-fn put_drained(out: &mut Output, call: Call, table: &[OpSend], answer: Result<usize, ProducerError>)
-    requires { entries_handed answer ≤ length table.now }
+fn put_drained(
+    out: &mut Output,
+    call: Call,
+    table: &[OpSendRow],
+    answer: Result<usize, ProducerError>,
+)
+    requires { handed_count answer ≤ length table.now }
     ensures { Writes out.old out.new }
 {
     match answer {
@@ -61,34 +65,31 @@ fn put_drained(out: &mut Output, call: Call, table: &[OpSend], answer: Result<us
 }
 
 #[inline(never)]
-pub(crate) fn call_drain(s: &mut ProducerState, task: Task, out: &mut Output)
+pub(crate) fn call_drain<D: Drive>(d: &mut D, task: Task, out: &mut Output)
     ensures { Writes out.old out.new }
 {
-    let mut table = [no_entry(); MOST_ENTRIES];
+    let mut table = no_table().items;
     if task.call == Call::DrainTimedOutSends {
         let n = room_at(task.arguments.behind(8));
-        let r = s.drain_timed_out_sends(task.arguments.get(), &mut table[..n]);
-        *s = r.state;
-        put_drained(out, task.call, &table[..n], r.answer);
+        let answer = d.drain_timed_out_sends(task.arguments.get(), &mut table[..n]);
+        put_drained(out, task.call, &table[..n], answer);
     } else {
         let n = room_at(task.arguments);
-        let r = s.drain_pending_sends(&mut table[..n]);
-        *s = r.state;
-        put_drained(out, task.call, &table[..n], r.answer);
+        let answer = d.drain_pending_sends(&mut table[..n]);
+        put_drained(out, task.call, &table[..n], answer);
     }
 }
 
 // `last` has the replay table of the last snapshot. One that is refused leaves it.
 #[inline(never)]
-pub(crate) fn call_snapshot(s: &mut ProducerState, last: &mut Table, task: Task, out: &mut Output)
+pub(crate) fn call_snapshot<D: Drive>(d: &mut D, last: &mut Table, task: Task, out: &mut Output)
     ensures { Writes out.old out.new }
 {
-    let mut dropped = [no_entry(); MOST_ENTRIES];
-    let mut replay = [no_entry(); MOST_ENTRIES];
+    let mut dropped = no_table().items;
+    let mut replay = no_table().items;
     let n = room_at(task.arguments);
     let m = room_at(task.arguments.behind(4));
-    let r = s.snapshot_pending_sends(&mut dropped[..n], &mut replay[..m]);
-    match r.answer {
+    match d.snapshot_pending_sends(&mut dropped[..n], &mut replay[..m]) {
         Ok(n) => {
             let counts = (low_half(n.dropped as u64), low_half(n.replay as u64));
             let entries = (&dropped[..n.dropped], &replay[..n.replay]);
@@ -100,19 +101,17 @@ pub(crate) fn call_snapshot(s: &mut ProducerState, last: &mut Table, task: Task,
         }
         Err(e) => out.put((task.call, e)),
     }
-    *s = r.state;
 }
 
 #[inline(never)]
-pub(crate) fn call_replay(s: &mut ProducerState, last: &Table, task: Task, out: &mut Output)
+pub(crate) fn call_replay<D: Drive>(d: &mut D, last: &Table, task: Task, out: &mut Output)
     ensures { Writes out.old out.new }
 {
-    let r = if task.call == Call::ReplaySnapshots {
-        s.replay_snapshots(written(task.arguments).as_slice())
+    let answer = if task.call == Call::ReplaySnapshots {
+        d.replay_snapshots(written(task.arguments).as_slice())
     } else {
         let n = task.arguments.get::<u32>() as usize;
-        s.replay_snapshots(first(last.as_slice(), n))
+        d.replay_snapshots(first(last.as_slice(), n))
     };
-    out.put((task.call, r.answer));
-    *s = r.state;
+    out.put((task.call, answer));
 }

@@ -1,11 +1,12 @@
 // A host of the producer: carries a script out and writes the answers (docs/SCRIPT.md).
 #![tactic(auto, using(script::proofs::Writings::both))]
 
+mod by_value;
 mod call;
+mod drive;
 mod dump;
 mod in_place;
 mod lent;
-mod plan;
 pub mod run;
 mod take;
 mod task;

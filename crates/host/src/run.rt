@@ -3,25 +3,16 @@ ghost use Rattle.std.specs.Prelude.{◌≤◌, length};
 ghost use Rattle.script.specs.Output.{Wrote, Writes};
 ghost use Rattle.host.specs.Steps.{Steps};
 
-use crate::call::ByValue;
+use crate::by_value::ByValue;
+use crate::call::carry_out;
+use crate::drive::Drive;
 use crate::in_place::InPlace;
+use crate::lent::no_table;
 use crate::task::Task;
 use script::answer::Ending;
 use script::operation::{Head, Operation, head_of, operation_at};
 use script::read::Place;
 use script::write::Output;
-use types::types::ProducerHandle;
-
-// How the operations of a script are carried out.
-pub(crate) trait Drive: Drop {
-    // Of a new producer.
-    fn new(handle: ProducerHandle) -> Self;
-
-    // One operation, of which the whole answer has room.
-    fn carry_out(&mut self, task: Task, out: &mut Output)
-        requires { out.old.at ≤ length out.old.bytes.now }
-        ensures { Writes out.old out.new };
-}
 
 // An answer of so many bytes and an ending record behind it.
 fn fits(room: u64, out: &Output) -> bool {
@@ -58,6 +49,7 @@ fn run<D: Drive>(head: Head, out: &mut Output)
     ensures { Writes out.old out.new }
 {
     let mut drive = D::new(head.handle);
+    let mut last = no_table();
     let mut place = head.operations;
     while let Some(op) = next_operation(place, out) {
         let task = Task {
@@ -65,7 +57,7 @@ fn run<D: Drive>(head: Head, out: &mut Output)
             arguments: place.behind(1),
             store: head.store,
         };
-        drive.carry_out(task, out);
+        carry_out(&mut drive, &mut last, task, out);
         place = place.behind(op.size);
     }
 }

@@ -7,7 +7,7 @@ use Prim.Native.Nat.{ℕ, zero, suc, ◌+◌, ◌≤◌, ◌<◌}
 use native.Mathlib.Numerals.{add-one}
 use native.Mathlib.Omega.{arith}
 use lib.ListN.{length, take, drop, get_or, set, drop_of_length-le}
-use lib.Seq.{drop-cons, take-suc-set, drop-set-lt, append_snoc}
+use lib.Seq.{drop-cons, take-suc, take-suc-set, take-set-le, drop-set-lt, get_or-set_same, append_snoc, lt-length-set}
 use Rattle.laws.specs.Choice.{pick}
 use Rattle.laws.specs.Lists.{without, first_at}
 
@@ -28,6 +28,19 @@ module _ {A : Type 0} where
       stored l i (i + 1 + 1) x (λ r. r) (omega arith) (omega arith)
       ∙ ap (λ (k : ℕ). take i l ++ x ∷ drop k l) (add-one (i + 1))
       ∙ ap (λ (r : List A). take i l ++ r) (sym (drop-cons l (i + 1) d h))
+
+  -- or those before it move back one by one
+  pub without_back : (l : List A) (i : ℕ) (d : A) → i + 1 < length l → without (set l (i + 1) (get_or l i d)) i ≡ without l (i + 1)
+  without_back l i d h =
+      let x : A = get_or l i d in
+      let r : List A = set l (i + 1) x in
+      ap (λ (f : List A). f ++ drop (i + 1) r) (take-set-le i l (i + 1) x (omega arith))
+      ∙ ap (λ (b : List A). take i l ++ b)
+      (drop-cons r (i + 1) d (lt-length-set l (i + 1) x h)
+      ∙ (λ j. get_or-set_same l (i + 1) x d h j ∷ drop (sym (add-one (i + 1)) j) r)
+      ∙ ap (λ (b : List A). x ∷ b) (drop-set-lt (i + 1 + 1) l (i + 1) x (omega arith)))
+      ∙ sym (append_snoc (take i l) x (drop (i + 1 + 1) l))
+      ∙ ap (λ (f : List A). f ++ drop (i + 1 + 1) l) (sym (ap (λ (k : ℕ). take k l) (add-one i) ∙ take-suc l i d (omega arith)))
 
   pub without_last : (l : List A) (i : ℕ) → length l ≤ i + 1 → without l i ≡ take i l
   without_last l i h = ap (λ (r : List A). take i l ++ r) (drop_of_length-le l h) ∙ append-nil (take i l)

@@ -9,9 +9,9 @@ use lib.ListN.{length, take, drop, get_or, set, length-set}
 use Rattle.laws.specs.Ring.{ring, slot}
 use Rattle.laws.specs.Lists.{without, first_at}
 use Rattle.laws.proofs.Rings.{length_ring, ring_at, ring_set, ring_take}
-use Rattle.laws.proofs.Lists.{without_step, without_last, first_hit, first_miss, first_none}
+use Rattle.laws.proofs.Lists.{without_step, without_back, without_last, first_hit, first_miss, first_none}
 
--- the elements behind p move up: what is to go stands at i
+-- the elements on one side of p move over: what is to go stands at i
 pub record Shift {A : Type 0} (cap : ℕ) (a₀ : List A) (h n p : ℕ) (a : List A) (i : ℕ) : Type 0 where
   pub len : length a ≡ cap
   pub low : i < min n cap
@@ -36,6 +36,22 @@ module _ {A : Type 0} (cap : ℕ) (pos : 0 < cap) where
             (ring_set cap pos a s.len h n i (get_or a (slot cap h (i + 1)) d) s.low
             ∙ ap (set l i) (sym (ring_at cap pos a s.len d h n (i + 1) b)))
             ∙ without_step l i d (omega arith)
+            ∙ s.left;
+      }
+
+  pub shift_back : (a₀ : List A) (h n p : ℕ) (a : List A) (i : ℕ) (d : A) → Shift cap a₀ h n p a (i + 1)
+      → Shift cap a₀ h n p (set a (slot cap h (i + 1)) (get_or a (slot cap h i) d)) i
+  shift_back a₀ h n p a i d s =
+      let l : List A = ring cap a h n in
+      let e : length l ≡ min n cap = length_ring cap pos a s.len h n in
+      record {
+        len = simp length-set s.len;
+        low = omega (arith, s.low);
+        left =
+            ap (λ (r : List A). without r i)
+            (ring_set cap pos a s.len h n (i + 1) (get_or a (slot cap h i) d) s.low
+            ∙ ap (set l (i + 1)) (sym (ring_at cap pos a s.len d h n i (omega (arith, s.low)))))
+            ∙ without_back l i d (omega (arith, s.low))
             ∙ s.left;
       }
 

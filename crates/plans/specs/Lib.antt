@@ -1,7 +1,6 @@
 pub mod State
 pub mod Settings
 pub mod Ids
-pub mod Settle
 pub mod Take
 pub mod Delta
 pub mod Batch

@@ -1,6 +1,8 @@
 -- What the plans of a send answer. The definition goes by the queue, these by the scalars and the records that are stored.
 use Rattle.std.specs.Prelude.{ℕ, ◌*◌, min, Bool, ℤ, pos, Err, Ok, Result, Option, None}
 use Rattle.types.specs.declared.answer.SendDecision.TheVariants.{Emit, Batched}
+use Rattle.types.specs.declared.answer.SendDecision.{SendDecision}
+use Rattle.types.specs.declared.entry.OpSend.{OpSend}
 use Rattle.types.specs.declared.entry.Publish.{Publish}
 use Rattle.types.specs.declared.entry.Replay.{Replay}
 use Rattle.types.specs.declared.entry.Replay.TheVariants as replay
@@ -9,19 +11,40 @@ use Rattle.types.specs.declared.error.ProducerError.TheVariants.{MessageTooLarge
 use Rattle.types.specs.declared.frame.FrameKind.{FrameKind}
 use Rattle.types.specs.declared.frame.FrameKind.TheVariants as kind
 use Rattle.types.specs.declared.frame.FrameRecord.{FrameRecord}
+use Rattle.types.specs.declared.message.SingleMessage.{SingleMessage}
 use Rattle.types.specs.declared.way.Way.{Way}
 use Rattle.types.specs.declared.way.Way.TheVariants.{TooLarge, Join, Single, Chunked}
 use Rattle.queue.specs.Batch.{at_least_one, grown, single_of, is_full}
 use Rattle.plans.specs.declared.state.Core.{Core}
 use Rattle.plans.specs.declared.delta.Put.{Put}
 use Rattle.plans.specs.declared.delta.Pushed.{Pushed}
-use Rattle.plans.specs.declared.delta.SendDelta.{SendDelta}
 use Rattle.plans.specs.declared.send.Sending.{Sending}
-use Rattle.plans.specs.declared.send.Emitted.{Emitted}
-use Rattle.plans.specs.declared.send.Joined.{Joined}
 use Rattle.plans.specs.Delta.{core_batch, counted_core, pushed, accepted, held}
 use Rattle.plans.specs.Batch.{flushed_if}
 use Rattle.plans.specs.Choose.{chosen}
+
+-- ── what is stored ──
+
+-- a message in a frame of its own
+pub record Emitted : Type 0 where
+  pub core : Core
+  pub frame : Option (Put FrameRecord)
+  pub entry : Option (Put OpSend)
+
+-- a message in the open batch
+pub record Joined : Type 0 where
+  pub core : Core
+  pub entry : Option (Put OpSend)
+  pub held : Option (Put SingleMessage)
+
+-- `first` is the batch that is flushed before; `second` is the message's own frame, or the batch that it filled
+pub record SendDelta : Type 0 where
+  pub answer : Result SendDecision ProducerError
+  pub core : Core
+  pub first : Option (Put FrameRecord)
+  pub second : Option (Put FrameRecord)
+  pub entry : Option (Put OpSend)
+  pub held : Option (Put SingleMessage)
 
 -- ── one message ──
 

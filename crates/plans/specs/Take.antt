@@ -7,10 +7,9 @@ use Rattle.rules.specs.Rings.{without_front}
 use Rattle.frames.specs.declared.span.Span.{Span}
 use Rattle.frames.specs.Answer.{answer_of}
 use Rattle.frames.specs.Outbound.{frame_out}
-use Rattle.frames.specs.After.{stays_of, record_after}
-use Rattle.plans.specs.declared.state.Core.{Core}
+use Rattle.frames.specs.After.{stays_of, kind_after}
+use Rattle.types.specs.declared.types.ProducerHandle.{ProducerHandle}
 use Rattle.plans.specs.declared.take.TakePlan.{TakePlan}
-use Rattle.plans.specs.State.{core_rings}
 use Rattle.types.specs.declared.error.ProducerError.{ProducerError}
 use Rattle.queue.specs.Sizes.{outbound_size, held_size}
 
@@ -22,22 +21,19 @@ rings_taken stays count r =
       held = without_front held_size count r.held;
     }
 
-abbrev pub core_taken : Bool → ℕ → Core → Core
-core_taken stays count c = core_rings (rings_taken stays count c.rings) c
-
 -- with the span of a frame that goes out
-abbrev pub plan_of : Core → FrameRecord → ℕ → Span → TakePlan
-plan_of c r count s =
+abbrev pub plan_of : ProducerHandle → Rings → FrameRecord → ℕ → Span → TakePlan
+plan_of handle rings r count s =
     record {
       span = s;
-      core = core_taken (stays_of r.kind) count c;
-      slot = record_after r r.kind;
-      frame = frame_out c.handle r r.kind s.len;
+      rings = rings_taken (stays_of r.kind) count rings;
+      kind = kind_after r.kind;
+      frame = frame_out handle r r.kind s.len;
     }
 
-abbrev pub plan_with : Core → FrameRecord → ℕ → Result Span ProducerError → Result TakePlan ProducerError
-plan_with c r count (Ok s) = Ok (plan_of c r count s)
-plan_with c r count (Err e) = Err e
+abbrev pub plan_with : ProducerHandle → Rings → FrameRecord → ℕ → Result Span ProducerError → Result TakePlan ProducerError
+plan_with handle rings r count (Ok s) = Ok (plan_of handle rings r count s)
+plan_with handle rings r count (Err e) = Err e
 
-abbrev pub take_planned : Core → FrameRecord → Option Span → ℕ → ℕ → Result TakePlan ProducerError
-take_planned c r s count room = plan_with c r count (answer_of c.rings.outbound.len s room)
+abbrev pub take_planned : ProducerHandle → Rings → FrameRecord → Option Span → ℕ → ℕ → Result TakePlan ProducerError
+take_planned handle rings r s count room = plan_with handle rings r count (answer_of rings.outbound.len s room)

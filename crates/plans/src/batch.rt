@@ -82,14 +82,6 @@ impl Core {
         }
     }
 
-    // After a message has joined.
-    pub fn flush_batch_if_full(self, publish_time: u64) -> Pushed<FrameRecord>
-        ensures { result ≡ flushed_if (is_full self.settings self.batch.len self.batch.current_size_bytes) publish_time self }
-    {
-        let full = self.is_full(self.batch.len, self.batch.current_size_bytes);
-        self.flush_if(full, publish_time)
-    }
-
     // Count 0 for an empty batch or a closed producer; 4 only where a frame would be made.
     pub fn flush_answer(self) -> Result<usize, ProducerError>
         ensures { result ≡ flush_answer self }

@@ -1,17 +1,12 @@
 // What plans answer: the scalars after a call, and which records go to which places.
 ghost use Rattle.std.specs.Prelude.{◌≡◌, set};
-ghost use Rattle.plans.specs.Delta.{put_at, accepted, pushed, held, counted_core};
+ghost use Rattle.plans.specs.Delta.{put_at, pushed, counted_core};
 
 use crate::state::Core;
 use rules::rings::Rings;
-use types::answer::SendDecision;
-use types::entry::{OpSend, Publish};
 use types::error::ProducerError;
 use types::frame::FrameRecord;
-use types::message::SingleMessage;
-use types::signed::signed_of;
-use types::stats::{Counters, SequenceIds};
-use types::types::SequenceId;
+use types::stats::Counters;
 
 // A record, and the place of its ring that it goes to.
 #[derive(Clone, Copy)]
@@ -36,17 +31,6 @@ impl<T: Copy> Put<T> {
 pub struct Pushed<T> {
     pub core: Core,
     pub put: Option<Put<T>>,
-}
-
-// Of a send. `first` is the batch that is flushed before; `second` is the message's own frame, or the batch that it filled.
-#[derive(Clone, Copy)]
-pub struct SendDelta {
-    pub answer: Result<SendDecision, ProducerError>,
-    pub core: Core,
-    pub first: Option<Put<FrameRecord>>,
-    pub second: Option<Put<FrameRecord>>,
-    pub entry: Option<Put<OpSend>>,
-    pub held: Option<Put<SingleMessage>>,
 }
 
 // Of a flush.
@@ -81,47 +65,6 @@ impl Core {
         Pushed {
             core: Core { rings, ..self },
             put: put_at(outbound.place_behind(), frame),
-        }
-    }
-
-    // An entry under the next id, which is answerable.
-    pub fn assign_sequence_id(self, publish: Publish) -> Pushed<OpSend>
-        ensures { result ≡ accepted publish self }
-    {
-        let id = self.ids.next_sequence_id;
-        let pending = self.rings.pending;
-        let ids = SequenceIds {
-            next_sequence_id: SequenceId(id.0.wrapping_add(1)),
-            last_sequence_id_pushed: signed_of(id.0),
-            ..self.ids
-        };
-        let rings = Rings {
-            pending: pending.longer_behind(),
-            ..self.rings
-        };
-        let op = OpSend {
-            sequence_id: id,
-            answerable: true,
-            publish,
-        };
-        Pushed {
-            core: Core { ids, rings, ..self },
-            put: put_at(pending.place_behind(), op),
-        }
-    }
-
-    // A message more among those held.
-    pub fn hold(self, single: SingleMessage) -> Pushed<SingleMessage>
-        ensures { result ≡ held single self }
-    {
-        let held = self.rings.held;
-        let rings = Rings {
-            held: held.longer_behind(),
-            ..self.rings
-        };
-        Pushed {
-            core: Core { rings, ..self },
-            put: put_at(held.place_behind(), single),
         }
     }
 

@@ -9,7 +9,6 @@ pub mod ids;
 pub mod replay;
 pub mod send;
 pub mod settings;
-pub mod settle;
 pub mod state;
 pub mod take;
 pub mod way;

@@ -1,15 +1,18 @@
 -- Drains: what is planned is what the definitions hand out, and the state without it stands for their queue. Assumes nothing.
 use Rattle.std.specs.Prelude.{Err, None, Ok, Option, Some, ℕ}
-use Rattle.std.proofs.Common.{◌≡◌, ℕ, suc, ◌-◌, ◌≤◌, min, Bool, true, false, ltb, List, [], ◌∷◌, map, length, take, drop, sym, refl, ap, ◌∙◌, subst, zero-le, arith, lit<, length-take-le, take_all, take_at, le-ltb, ltb-false}
+use Rattle.std.proofs.Common.{◌≡◌, ℕ, suc, ◌-◌, ◌≤◌, min, Bool, true, false, ltb, List, [], ◌∷◌, ◌++◌, map, length, take, drop, sym, refl, ap, ◌∙◌, subst, zero-le, arith, lit<, length-take-le, take_all, take_at, drop_at, le-ltb, ltb-false}
+use lib.ListN.{length-map}
 use Rattle.laws.specs.Choice.{pick}
 use Rattle.laws.specs.Ring.{ring, slot}
-use Rattle.laws.proofs.Lists.{map_drop}
+use Rattle.laws.proofs.Lists.{map_drop, map_take}
 use Rattle.laws.proofs.Rings.{ring_none, ring_map, ring_drops}
 use Rattle.types.specs.declared.types.SequenceId.{SequenceId}
 use Rattle.types.specs.declared.entry.OpSend.{OpSend}
 use Rattle.types.specs.declared.entry.Publish.{Publish}
 use Rattle.types.specs.declared.error.ProducerError.{ProducerError}
 use Rattle.types.specs.declared.error.ProducerError.TheVariants.{TooShort}
+use Rattle.rows.specs.Entry.{decode_entry}
+use Rattle.rows.specs.declared.entry.OpSendRow.{OpSendRow}
 use Rattle.queue.specs.Queue.{Queue, Answer, Outcome, refused, done, empty_outgoing, with_pending, with_out}
 use Rattle.queue.specs.Ids.{elapsed, send_deadline}
 use Rattle.queue.specs.Settle.{Handed, handed, due_count, unmark, unmark_all, hand_out, drain_timed_out_sends, table_after}
@@ -20,7 +23,8 @@ use Rattle.tables.specs.Drain.{cleared_each, gone_count}
 use Rattle.rules.specs.Blank.{no_entry}
 use Rattle.upkeep.proofs.Keys.{length_cleared}
 use Rattle.producer.specs.Tables.{MeetsDrain, Drains, gone_of, plan_of, drained_state}
-use Rattle.producer.specs.View.{view, entries, slots_of}
+use Rattle.producer.specs.View.{queue_of, entries, slots_of, view}
+use Rattle.producer.specs.State.{State, state_of}
 use Rattle.producer.specs.declared.state.ProducerState.{ProducerState}
 use Rattle.producer.proofs.Entries.{length_entries, unmarked_entries}
 use Rattle.producer.proofs.Full.{Full}
@@ -47,32 +51,32 @@ gone_is : (due : Option ℕ) (q : Queue) → take (count_of due q) q.pending ≡
 gone_is None q = take_all (length q.pending) q.pending (omega arith)
 gone_is (Some time) q = refl
 
-timeout_is : (s : ProducerState) → s.core.settings.delays.send_timeout ≡ (view s).settings.delays.send_timeout
-unfolding view
+timeout_is : (s : State) → s.core.settings.delays.send_timeout ≡ (queue_of s).settings.delays.send_timeout
+unfolding queue_of
 timeout_is s = refl
 
--- what is planned, against the view
-module _ (s : ProducerState) (due : Option ℕ) (es : List OpSend) (e : es ≡ (view s).pending) where
+-- what is planned, against the queue_of
+module _ (s : State) (due : Option ℕ) (es : List OpSend) (e : es ≡ (queue_of s).pending) where
   planned_count : ℕ
   planned_count = gone_count due s.core.settings.delays.send_timeout es
 
   record Plans (n : ℕ) : Type 0 where
-    gone : take n es ≡ gone_of due (view s)
-    many : n ≡ length (gone_of due (view s))
+    gone : take n es ≡ gone_of due (queue_of s)
+    many : n ≡ length (gone_of due (queue_of s))
     few : n ≤ length es
 
   plans : Plans planned_count
   unfolding planned_count
   plans =
-      let most : count_of due (view s) ≤ length (view s).pending = count_most due (view s) in
+      let most : count_of due (queue_of s) ≤ length (queue_of s).pending = count_most due (queue_of s) in
       let n : ℕ = gone_count due s.core.settings.delays.send_timeout es in
-      let k : n ≡ count_of due (view s) = λ j. gone_count due (timeout_is s j) (e j) in
-      let first : take n es ≡ gone_of due (view s) =
+      let k : n ≡ count_of due (queue_of s) = λ j. gone_count due (timeout_is s j) (e j) in
+      let first : take n es ≡ gone_of due (queue_of s) =
       ap (take n) e
-      ∙ ap (λ (j : ℕ). take j (view s).pending) k
-      ∙ gone_is due (view s) in
-      let many : n ≡ length (gone_of due (view s)) =
-      k ∙ sym (length-take-le (count_of due (view s)) (view s).pending most) ∙ ap length (gone_is due (view s)) in
+      ∙ ap (λ (j : ℕ). take j (queue_of s).pending) k
+      ∙ gone_is due (queue_of s) in
+      let many : n ≡ length (gone_of due (queue_of s)) =
+      k ∙ sym (length-take-le (count_of due (queue_of s)) (queue_of s).pending most) ∙ ap length (gone_is due (queue_of s)) in
       record { gone = first; many = many; few = omega (arith, ap length e) }
 
 -- ── what is left ──
@@ -116,9 +120,9 @@ unfolding drain_pending_sends drain_timed_out_sends
 drain_is None room q = refl
 drain_is (Some time) room q = refl
 
-left_view : (s : ProducerState) → Full s → (due : Option ℕ) (es : List OpSend) (p : ℕ) → take p es ≡ gone_of due (view s)
-    → p ≡ count_of due (view s) → view (drained_state due es p s) ≡ left_of due (view s)
-unfolding view
+left_view : (s : State) → Full s → (due : Option ℕ) (es : List OpSend) (p : ℕ) → take p es ≡ gone_of due (queue_of s)
+    → p ≡ count_of due (queue_of s) → queue_of (drained_state due es p s) ≡ left_of due (queue_of s)
+unfolding queue_of
 left_view s f None es p e k =
     let c = s.core in
     let r = c.rings in
@@ -149,60 +153,75 @@ left_view s f (Some time) es p e k =
     (length_each gone s.pending_ids s.pending_marks ∙ f.marks) f.pending in
     let moved : ring pending_size slots (slot pending_size h (min p (min n pending_size))) (min n pending_size - min p (min n pending_size)) ≡ drop p (ring pending_size slots h n) =
     ring_drops pending_size (lit< tt) slots len no_entry h n p in
-    let all : ring pending_size slots h n ≡ unmark_all gone (view s).pending = unmark_ring gone s.pending_ids s.pending_marks s.pending h n in
-    let same : drop p (unmark_all gone (view s).pending) ≡ unmark_all (gone_of due (view s)) (drop (count_of due (view s)) (view s).pending) =
-    unmark_drop gone p (view s).pending ∙ (λ j. unmark_all (e j) (drop (k j) (view s).pending)) in
-    λ j. with_pending ((moved ∙ ap (drop p) all ∙ same) j) (view s)
+    let all : ring pending_size slots h n ≡ unmark_all gone (queue_of s).pending = unmark_ring gone s.pending_ids s.pending_marks s.pending h n in
+    let same : drop p (unmark_all gone (queue_of s).pending) ≡ unmark_all (gone_of due (queue_of s)) (drop (count_of due (queue_of s)) (queue_of s).pending) =
+    unmark_drop gone p (queue_of s).pending ∙ (λ j. unmark_all (e j) (drop (k j) (queue_of s).pending)) in
+    λ j. with_pending ((moved ∙ ap (drop p) all ∙ same) j) (queue_of s)
 
 -- ── the call ──
 
 -- the count that is answered is the planned one
-pub counted : (due : Option ℕ) (s : ProducerState) (ys : List OpSend) (m k : ℕ) (t : ProducerState) (zs : List OpSend)
+pub counted : (due : Option ℕ) (s : ProducerState) (ys : List OpSendRow) (m k : ℕ) (t : ProducerState) (zs : List OpSendRow)
     → m ≡ k → Drains due s ys (Ok k) t zs → Drains due s ys (Ok m) t zs
 counted due s ys m k t zs e = subst (λ (n : ℕ). Drains due s ys (Ok n) t zs) (sym e)
 
-module _ (s : ProducerState) (due : Option ℕ) (es : List OpSend) (e : es ≡ (view s).pending)
-    (ys : List OpSend) where
+-- a table whose start was written with the first k rows
+pub start_is : (rows ys zs : List OpSendRow) (k : ℕ) → k ≤ length rows → k ≤ length ys → zs ≡ table_after (take (length ys) (take k rows)) ys
+    → (take k zs ≡ take k rows) × (drop k zs ≡ drop k ys)
+start_is rows ys zs k a b z =
+    let n : length (take k rows) ≡ k = length-take-le k rows a in
+    let all : take (length ys) (take k rows) ≡ take k rows = take_all (length ys) (take k rows) (omega (arith, n)) in
+    let e : zs ≡ take k rows ++ drop k ys = z ∙ ap (λ (l : List OpSendRow). table_after l ys) all ∙ ap (λ (i : ℕ). take k rows ++ drop i ys) n in
+    (ap (take k) e ∙ take_at (take k rows) (drop k ys) k n, ap (drop k) e ∙ drop_at (take k rows) (drop k ys) k n)
+
+module _ (s : ProducerState) (due : Option ℕ) (rows : List OpSendRow) (e : map decode_entry rows ≡ (view s).pending) (ys : List OpSendRow) where
+  abbrev es : List OpSend
+  es = map decode_entry rows
+
   -- a plan that goes through, and one that does not
   record Fits (k : ℕ) : Type 0 where
-    plan : Plans s due es e k
+    plan : Plans (state_of s) due es e k
     room : k ≤ length ys
 
-  fits : (k : ℕ) → plan_of due es (length ys) s ≡ Ok k → Fits k
+  fits : (k : ℕ) → plan_of due es (length ys) (state_of s) ≡ Ok k → Fits k
   unfolding planned_count
   fits k p =
-      let both = ok_of (ltb (length ys) (planned_count s due es e)) (planned_count s due es e) k TooShort p in
-      subst Fits both.1 (record { plan = plans s due es e; room = ltb-false (length ys) (planned_count s due es e) both.0 })
+      let both = ok_of (ltb (length ys) (planned_count (state_of s) due es e)) (planned_count (state_of s) due es e) k TooShort p in
+      subst Fits both.1 (record { plan = plans (state_of s) due es e; room = ltb-false (length ys) (planned_count (state_of s) due es e) both.0 })
 
-  pub plan_fits : (k : ℕ) → plan_of due es (length ys) s ≡ Ok k → (k ≤ length es) × (k ≤ length ys)
-  plan_fits k p = let g = fits k p in (g.plan.few, g.room)
+  few : (k : ℕ) → Fits k → k ≤ length rows
+  few k g = omega (arith, g.plan.few, length-map rows decode_entry)
 
-  pub drains_short : (x : ProducerError) → plan_of due es (length ys) s ≡ Err x → Drains due s ys (Err x) s ys
+  pub plan_fits : (k : ℕ) → plan_of due es (length ys) (state_of s) ≡ Ok k → (k ≤ length rows) × (k ≤ length ys)
+  plan_fits k p = let g = fits k p in (few k g, g.room)
+
+  pub drains_short : (x : ProducerError) → plan_of due es (length ys) (state_of s) ≡ Err x → Drains due s ys (Err x) s ys
   unfolding planned_count
   drains_short x p =
-      let n : ℕ = planned_count s due es e in
+      let n : ℕ = planned_count (state_of s) due es e in
       let both = err_of (ltb (length ys) n) n TooShort x p in
       let gone : List OpSend = gone_of due (view s) in
-      let short : ltb (length ys) (length gone) ≡ true = ap (ltb (length ys)) (sym (plans s due es e).many) ∙ both.0 in
+      let short : ltb (length ys) (length gone) ≡ true = ap (ltb (length ys)) (sym (plans (state_of s) due es e).many) ∙ both.0 in
       subst (λ (y : ProducerError). Drains due s ys (Err y) s ys) both.1
       (meets due (length ys) s s (refused 9 []) (sym (drain_is due (length ys) (view s) ∙ ap (λ (b : Bool). pick b (view s, refused 9 []) (left_of due (view s), done (handed gone))) short)), refl, refl)
 
-  pub drains_done : Full s → (k : ℕ) → plan_of due es (length ys) s ≡ Ok k → (zs : List OpSend) → zs ≡ table_after (take (length ys) (take k es)) ys
-      → Drains due s ys (Ok k) (drained_state due es k s) zs
-  drains_done f k p zs z =
+  pub drains_done : Full (state_of s) → (k : ℕ) → plan_of due es (length ys) (state_of s) ≡ Ok k → (zs : List OpSendRow)
+      → zs ≡ table_after (take (length ys) (take k rows)) ys
+      → (t : ProducerState) → state_of t ≡ drained_state due es k (state_of s) → Drains due s ys (Ok k) t zs
+  drains_done f k p zs z t left =
       let g = fits k p in
       let gone : List OpSend = gone_of due (view s) in
       let room : ltb (length ys) (length gone) ≡ false = le-ltb (length ys) (length gone) (omega (arith, g.plan.many, g.room)) in
-      let all : take (length ys) (take k es) ≡ gone = ap (take (length ys)) g.plan.gone ∙ take_all (length ys) gone (omega (arith, g.plan.many, g.room)) in
-      let zg : zs ≡ table_after gone ys = z ∙ ap (λ (l : List OpSend). table_after l ys) all in
       let many : k ≡ length gone = g.plan.many in
-      let back : take k zs ≡ gone = ap (take k) zg ∙ take_at gone (drop (length gone) ys) k (sym g.plan.many) in
+      let start = start_is rows ys zs k (few k g) g.room z in
+      let back : map decode_entry (take k zs) ≡ gone = ap (map decode_entry) start.0 ∙ map_take decode_entry k rows ∙ g.plan.gone in
       let c : k ≡ count_of due (view s) =
       g.plan.many ∙ ap length (sym (gone_is due (view s))) ∙ length-take-le (count_of due (view s)) (view s).pending (count_most due (view s)) in
-      let told : Handed = record { count = k; entries = take k zs } in (
-        meets due (length ys) s (drained_state due es k s) (done told)
-            ((λ j. (left_view s f due es k g.plan.gone c j, done (record { count = many j; entries = back j })))
+      let told : Handed = record { count = k; entries = map decode_entry (take k zs) } in (
+        meets due (length ys) s t (done told)
+            ((λ j. (queue_of (left j), done told))
+            ∙ (λ j. (left_view (state_of s) f due es k g.plan.gone c j, done (record { count = many j; entries = back j })))
             ∙ sym (drain_is due (length ys) (view s) ∙ ap (λ (b : Bool). pick b (view s, refused 9 []) (left_of due (view s), done (handed gone))) room)),
-        zg ∙ ap (λ (l : List OpSend). table_after l ys) (sym back),
+        start.1,
         tt,
       )

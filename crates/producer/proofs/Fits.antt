@@ -10,6 +10,7 @@ use Rattle.types.specs.declared.outbound.OutboundFrame.{OutboundFrame}
 use Rattle.types.specs.declared.types.ProducerHandle.{ProducerHandle}
 use Rattle.frames.specs.Outbound.{frame_out}
 use Rattle.tables.specs.declared.snapshot.Snapshot.{Snapshot}
+use Rattle.rows.specs.declared.entry.OpSendRow.{OpSendRow}
 use Rattle.queue.specs.Queue.{Queue, Outcome, Answer, done, refused}
 use Rattle.queue.specs.Frame.{Frame, first_frame}
 use Rattle.queue.specs.Run.{take, drain, timeouts, snapshot}
@@ -56,7 +57,7 @@ frame_fits store before after s t f e own = front_fits store (length before) (vi
 
 -- ── tables ──
 
-first_fits : (room n : ℕ) (gone table : List OpSend) (q p t : Queue)
+first_fits : (room n : ℕ) (gone : List OpSend) (table : List OpSendRow) (q p t : Queue)
     → ◌≡◌ {A = Outcome Handed} (t, done (told_first n table)) (hand_out room gone q p) → n ≤ room
 first_fits room n gone table q p t e = go (ltb room (length gone)) refl
   where
@@ -68,7 +69,7 @@ first_fits room n gone table q p t e = go (ltb room (length gone)) refl
         let count : n ≡ length gone = ap (λ (x : Handed). x.count) both in
         omega (arith, count, ltb-false room (length gone) h)
 
-module _ (s t : ProducerState) (room n : ℕ) (table : List OpSend) where
+module _ (s t : ProducerState) (room n : ℕ) (table : List OpSendRow) where
   pub drain_fits : Meets [] (drain room) s t (told_table (Ok n) table) → n ≤ room
   unfolding drain_pending_sends
   drain_fits e = first_fits room n _ table (view s) _ (view t) e
@@ -77,7 +78,7 @@ module _ (s t : ProducerState) (room n : ℕ) (table : List OpSend) where
   unfolding drain_timed_out_sends
   timeouts_fit time e = first_fits room n _ table (view s) _ (view t) e
 
-pub snapshot_fits : (s t : ProducerState) (ds rs : ℕ) (n : Snapshot) (dropped replay : List OpSend)
+pub snapshot_fits : (s t : ProducerState) (ds rs : ℕ) (n : Snapshot) (dropped replay : List OpSendRow)
     → Meets [] (snapshot ds rs) s t (told_snapshot (Ok n) dropped replay) → (n.dropped ≤ ds) × (n.replay ≤ rs)
 unfolding snapshot_pending_sends
 snapshot_fits s t ds rs n dropped replay e = go (ltb ds (length d) || ltb rs (length k)) refl

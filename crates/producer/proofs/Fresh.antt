@@ -7,14 +7,14 @@ use Rattle.queue.specs.Queue.{new_queue, new_settings, new_ids, new_counters}
 use Rattle.queue.specs.Sizes.{outbound_size, held_size, pending_size}
 use Rattle.plans.specs.State.{new_core}
 use Rattle.plans.specs.declared.state.Core.{Core}
-use Rattle.producer.specs.View.{view, entries}
-use Rattle.producer.specs.declared.state.ProducerState.{ProducerState}
+use Rattle.producer.specs.View.{queue_of, entries}
+use Rattle.producer.specs.State.{State}
 use Rattle.producer.proofs.Scalars.{with_core}
 
-pub fresh : (s : ProducerState) (handle : ProducerHandle) → s.core ≡ new_core handle → view s ≡ new_queue handle
-unfolding view
+pub fresh : (s : State) (handle : ProducerHandle) → s.core ≡ new_core handle → queue_of s ≡ new_queue handle
+unfolding queue_of
 fresh s handle e =
-    ap (λ (c : Core). view (with_core c s)) e
+    ap (λ (c : Core). queue_of (with_core c s)) e
     ∙ (λ j.
     record {
       handle = handle;

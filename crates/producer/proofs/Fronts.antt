@@ -16,9 +16,9 @@ use Rattle.tables.specs.Again.{unless_batched}
 use Rattle.plans.specs.Replay.{fronted_core, fronted_entry}
 use Rattle.plans.specs.declared.delta.Pushed.{Pushed}
 use Rattle.plans.specs.declared.state.Core.{Core}
-use Rattle.producer.specs.View.{view, slots_of}
+use Rattle.producer.specs.View.{queue_of, slots_of}
 use Rattle.producer.specs.Apply.{store_core, store_frame, store_entry}
-use Rattle.producer.specs.declared.state.ProducerState.{ProducerState}
+use Rattle.producer.specs.State.{State}
 use Rattle.producer.proofs.Entries.{entries_put}
 use Rattle.producer.proofs.Stores.{stored_at}
 use Rattle.producer.proofs.Full.{Full, slots, full_core, full_frame, full_entry}
@@ -64,7 +64,7 @@ abbrev pub fronted_for : OpSend → Core → Pushed FrameRecord
 fronted_for op c = fronted_core (unless_batched op.publish.replay (again op)) (frames_of op.publish.replay) c
 
 -- its store
-abbrev pub fronted_state : Pushed FrameRecord → ProducerState → ProducerState
+abbrev pub fronted_state : Pushed FrameRecord → State → State
 fronted_state p s = store_frame p.put (store_core p.core s)
 
 waits : (op : OpSend) (c : Core) → (fronted_for op c).core.rings.waiting ≡ add_sat (frames_of op.publish.replay) c.rings.waiting
@@ -76,19 +76,19 @@ waits op c = go (is_batched op.publish.replay)
     go true = refl
     go false = refl
 
-module _ (s : ProducerState) (f : Full s) where
-  fronts : (op : OpSend) → view (fronted_state (fronted_for op s.core) s) ≡ with_out (fronted_one op (view s).out) (view s)
-  unfolding view
+module _ (s : State) (f : Full s) where
+  fronts : (op : OpSend) → queue_of (fronted_state (fronted_for op s.core) s) ≡ with_out (fronted_one op (queue_of s).out) (queue_of s)
+  unfolding queue_of
   fronts op = go (is_batched op.publish.replay)
     where
       go : (b : Bool)
-          → view (fronted_state (fronted_core (pick b None (Some (again op))) (frames_of op.publish.replay) s.core) s)
+          → queue_of (fronted_state (fronted_core (pick b None (Some (again op))) (frames_of op.publish.replay) s.core) s)
           ≡ with_out (record {
-            frames = pick (not b) (front outbound_size (again op) (view s).out.frames) (view s).out.frames;
-            waiting = add_sat (frames_of op.publish.replay) (view s).out.waiting;
-            held = (view s).out.held;
-            batch = (view s).out.batch;
-          }) (view s)
+            frames = pick (not b) (front outbound_size (again op) (queue_of s).out.frames) (queue_of s).out.frames;
+            waiting = add_sat (frames_of op.publish.replay) (queue_of s).out.waiting;
+            held = (queue_of s).out.held;
+            batch = (queue_of s).out.batch;
+          }) (queue_of s)
       go true = refl
       go false =
           let k = s.core.rings in
@@ -101,37 +101,37 @@ module _ (s : ProducerState) (f : Full s) where
           with_out (record {
             frames = e j;
             waiting = add_sat (frames_of op.publish.replay) k.waiting;
-            held = (view s).out.held;
-            batch = (view s).out.batch;
-          }) (view s)
+            held = (queue_of s).out.held;
+            batch = (queue_of s).out.batch;
+          }) (queue_of s)
 
 -- with the frames of the rest at the front too, those of all are
-module _ (s₀ : ProducerState) (ops : List OpSend) where
-  pub record Fronting (s : ProducerState) (rest : List OpSend) : Type 0 where
+module _ (s₀ : State) (ops : List OpSend) where
+  pub record Fronting (s : State) (rest : List OpSend) : Type 0 where
     pub full : Full s
     pub fits : s.core.rings.waiting < 2 ^ 64
-    pub left : with_out (fronted rest (view s).out) (view s) ≡ with_out (fronted ops (view s₀).out) (view s₀)
+    pub left : with_out (fronted rest (queue_of s).out) (queue_of s) ≡ with_out (fronted ops (queue_of s₀).out) (queue_of s₀)
 
   pub fronting_start : (rest : List OpSend) → Full s₀ → s₀.core.rings.waiting < 2 ^ 64 → rest ≡ ops → Fronting s₀ rest
-  fronting_start rest f h e = record { full = f; fits = h; left = ap (λ (l : List OpSend). with_out (fronted l (view s₀).out) (view s₀)) e }
+  fronting_start rest f h e = record { full = f; fits = h; left = ap (λ (l : List OpSend). with_out (fronted l (queue_of s₀).out) (queue_of s₀)) e }
 
-  pub fronting_step : (s : ProducerState) (rest l : List OpSend) (op : OpSend) → Fronting s rest → rest ≡ l ++ op ∷ []
+  pub fronting_step : (s : State) (rest l : List OpSend) (op : OpSend) → Fronting s rest → rest ≡ l ++ op ∷ []
       → (p : Pushed FrameRecord) → p ≡ fronted_for op s.core → Fronting (fronted_state p s) l
   fronting_step s rest l op g r p e =
       record {
         full = full_frame (store_core p.core s) (full_core s g.full p.core) p.put;
         fits = omega (arith, ap (λ (q : Pushed FrameRecord). q.core.rings.waiting) e ∙ waits op s.core);
         left =
-            ap (λ (q : Queue). with_out (fronted l q.out) q) (ap (λ (q : Pushed FrameRecord). view (fronted_state q s)) e ∙ fronts s g.full op)
-            ∙ ap (λ (o : Outgoing). with_out o (view s)) (fronted_last l op (view s).out)
-            ∙ ap (λ (m : List OpSend). with_out (fronted m (view s).out) (view s)) (sym r)
+            ap (λ (q : Queue). with_out (fronted l q.out) q) (ap (λ (q : Pushed FrameRecord). queue_of (fronted_state q s)) e ∙ fronts s g.full op)
+            ∙ ap (λ (o : Outgoing). with_out o (queue_of s)) (fronted_last l op (queue_of s).out)
+            ∙ ap (λ (m : List OpSend). with_out (fronted m (queue_of s).out) (queue_of s)) (sym r)
             ∙ g.left;
       }
 
-  pub fronting_end : (s : ProducerState) (rest : List OpSend) → Fronting s rest → length rest ≡ 0
-      → view s ≡ with_out (fronted ops (view s₀).out) (view s₀)
-  unfolding view
-  fronting_end s [] g z = ap (λ (o : Outgoing). with_out o (view s)) (fronted_none (view s).out g.fits) ∙ g.left
+  pub fronting_end : (s : State) (rest : List OpSend) → Fronting s rest → length rest ≡ 0
+      → queue_of s ≡ with_out (fronted ops (queue_of s₀).out) (queue_of s₀)
+  unfolding queue_of
+  fronting_end s [] g z = ap (λ (o : Outgoing). with_out o (queue_of s)) (fronted_none (queue_of s).out g.fits) ∙ g.left
   fronting_end s (x ∷ l) g z = absurd (omega arith)
 
 -- ── entries ──
@@ -141,12 +141,12 @@ front_last : (l : List OpSend) (op : OpSend) (p : List OpSend) → front_all pen
 front_last [] op p = refl
 front_last (x ∷ l) op p = ap (front pending_size (mark x)) (front_last l op p)
 
-abbrev pub entered : Pushed OpSend → ProducerState → ProducerState
+abbrev pub entered : Pushed OpSend → State → State
 entered a s = store_entry a.put (store_core a.core s)
 
-module _ (s : ProducerState) (f : Full s) where
-  enters : (op : OpSend) → view (entered (fronted_entry op s.core) s) ≡ with_pending (front pending_size (mark op) (view s).pending) (view s)
-  unfolding view
+module _ (s : State) (f : Full s) where
+  enters : (op : OpSend) → queue_of (entered (fronted_entry op s.core) s) ≡ with_pending (front pending_size (mark op) (queue_of s).pending) (queue_of s)
+  unfolding queue_of
   enters op =
       let c = s.core in
       let k = c.rings in
@@ -171,29 +171,29 @@ module _ (s : ProducerState) (f : Full s) where
       }
 
 -- with the rest at the front too, all are
-module _ (s₀ : ProducerState) (ops : List OpSend) where
-  pub record Entering (s : ProducerState) (rest : List OpSend) : Type 0 where
+module _ (s₀ : State) (ops : List OpSend) where
+  pub record Entering (s : State) (rest : List OpSend) : Type 0 where
     pub full : Full s
-    pub left : with_pending (front_all pending_size (map mark rest) (view s).pending) (view s) ≡ with_pending (front_all pending_size (map mark ops) (view s₀).pending) (view s₀)
+    pub left : with_pending (front_all pending_size (map mark rest) (queue_of s).pending) (queue_of s) ≡ with_pending (front_all pending_size (map mark ops) (queue_of s₀).pending) (queue_of s₀)
 
   pub entering_start : (rest : List OpSend) → Full s₀ → rest ≡ ops → Entering s₀ rest
   entering_start rest f e =
-      record { full = f; left = ap (λ (l : List OpSend). with_pending (front_all pending_size (map mark l) (view s₀).pending) (view s₀)) e }
+      record { full = f; left = ap (λ (l : List OpSend). with_pending (front_all pending_size (map mark l) (queue_of s₀).pending) (queue_of s₀)) e }
 
-  pub entering_step : (s : ProducerState) (rest l : List OpSend) (op : OpSend) → Entering s rest → rest ≡ l ++ op ∷ []
+  pub entering_step : (s : State) (rest l : List OpSend) (op : OpSend) → Entering s rest → rest ≡ l ++ op ∷ []
       → (a : Pushed OpSend) → a ≡ fronted_entry op s.core → Entering (entered a s) l
   entering_step s rest l op g r a e =
       record {
         full = full_entry (store_core a.core s) (full_core s g.full a.core) a.put;
         left =
             ap (λ (q : Queue). with_pending (front_all pending_size (map mark l) q.pending) q)
-            (ap (λ (q : Pushed OpSend). view (entered q s)) e ∙ enters s g.full op)
-            ∙ ap (λ (p : List OpSend). with_pending p (view s)) (front_last l op (view s).pending)
-            ∙ ap (λ (m : List OpSend). with_pending (front_all pending_size (map mark m) (view s).pending) (view s)) (sym r)
+            (ap (λ (q : Pushed OpSend). queue_of (entered q s)) e ∙ enters s g.full op)
+            ∙ ap (λ (p : List OpSend). with_pending p (queue_of s)) (front_last l op (queue_of s).pending)
+            ∙ ap (λ (m : List OpSend). with_pending (front_all pending_size (map mark m) (queue_of s).pending) (queue_of s)) (sym r)
             ∙ g.left;
       }
 
-  pub entering_end : (s : ProducerState) (rest : List OpSend) → Entering s rest → length rest ≡ 0
-      → view s ≡ with_pending (front_all pending_size (map mark ops) (view s₀).pending) (view s₀)
+  pub entering_end : (s : State) (rest : List OpSend) → Entering s rest → length rest ≡ 0
+      → queue_of s ≡ with_pending (front_all pending_size (map mark ops) (queue_of s₀).pending) (queue_of s₀)
   entering_end s [] g z = g.left
   entering_end s (x ∷ l) g z = absurd (omega arith)

@@ -1,9 +1,6 @@
 -- The state's arrays have as many elements as its type says, and a store keeps that. Assumes nothing.
 use Rattle.std.specs.Prelude.{Option}
-use Rattle.std.proofs.Common.{◌≡◌, [], ◌∷◌, length, ◌∙◌}
-use denote.Laws.{Is}
-use denote.Struct.Declared.{row}
-use denote.Struct.Laws.{val}
+use Rattle.std.proofs.Common.{◌≡◌, length, ◌∙◌}
 use Rattle.plans.specs.declared.state.Core.{Core}
 use Rattle.plans.specs.declared.delta.Put.{Put}
 use Rattle.types.specs.declared.entry.OpSend.{OpSend}
@@ -11,38 +8,22 @@ use Rattle.types.specs.declared.frame.FrameRecord.{FrameRecord}
 use Rattle.types.specs.declared.message.SingleMessage.{SingleMessage}
 use Rattle.producer.specs.Apply.{store_core, store_frame, store_entry, store_held}
 use Rattle.producer.specs.View.{slots_of}
-use Rattle.producer.specs.declared.state.ProducerState.{ProducerState}
-use Rattle.producer.specs.contracts.state.ProducerState.{the_type}
-use Rattle.producer.proofs.state.ProducerState.TheLaws.{the_laws}
+use Rattle.producer.specs.State.{State}
 use Rattle.producer.proofs.Entries.{length_entries}
 use Rattle.producer.proofs.Stores.{length_stored}
 use Rattle.queue.specs.Sizes.{outbound_size, held_size, pending_size}
 
--- what owning a state tells
-abbrev pub Good : ProducerState → Type 0
-Good s = Is (row the_type) s (val the_type the_laws s ∷ [])
-
-pub record Full (s : ProducerState) : Type 0 where
+pub record Full (s : State) : Type 0 where
   pub outbound : length s.outbound ≡ outbound_size
   pub held : length s.held ≡ held_size
   pub pending : length s.pending ≡ pending_size
   pub ids : length s.pending_ids ≡ pending_size
   pub marks : length s.pending_marks ≡ pending_size
 
-pub full : (s : ProducerState) → Good s → Full s
-full s g =
-    record {
-      outbound = g.1.1.1.0.1.0.1;
-      held = g.1.1.1.1.0.1.0.1;
-      pending = g.1.1.1.1.1.0.1.0.1;
-      ids = g.1.1.1.1.1.1.0.1.0.1;
-      marks = g.1.1.1.1.1.1.1.0.1.0.1;
-    }
-
-pub slots : (s : ProducerState) → Full s → length (slots_of s) ≡ pending_size
+pub slots : (s : State) → Full s → length (slots_of s) ≡ pending_size
 slots s f = length_entries pending_size s.pending_ids s.pending_marks s.pending f.ids f.marks f.pending
 
-module _ (s : ProducerState) (f : Full s) where
+module _ (s : State) (f : Full s) where
   pub full_core : (c : Core) → Full (store_core c s)
   full_core c = record { outbound = f.outbound; held = f.held; pending = f.pending; ids = f.ids; marks = f.marks }
 

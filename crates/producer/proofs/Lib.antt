@@ -1,3 +1,4 @@
+pub mod Behind
 pub mod Borne
 pub mod Drains
 pub mod Entries
@@ -11,12 +12,14 @@ pub mod Listed
 pub mod Locate
 pub mod Marks
 pub mod Meets
+pub mod Once
 pub mod Payload
 pub mod Plans
 pub mod Queries
 pub mod Receipts
 pub mod Remove
 pub mod Replays
+pub mod Rows
 pub mod Runs
 pub mod Scalars
 pub mod Sends

@@ -1,8 +1,8 @@
 -- The loop that lists what a ring holds: its elements up to i stand in the array. Assumes nothing.
 use Rattle.std.proofs.Common.{◌≡◌, ℕ, ◌+◌, ◌<◌, ◌≤◌, min, List, [], ◌∷◌, ◌++◌, length, get_or, take, drop, set, sym, ap, ◌∙◌, ◌%◌, add-one, arith, length-set, length-take, take_all, take-suc, take-suc-set}
 use Rattle.laws.specs.Ring.{ring}
-use Rattle.producer.specs.View.{view, slots_of}
-use Rattle.producer.specs.declared.state.ProducerState.{ProducerState}
+use Rattle.producer.specs.View.{queue_of, slots_of}
+use Rattle.producer.specs.State.{State}
 use Rattle.queue.specs.Sizes.{pending_size}
 
 -- one more element of l at its place of a
@@ -21,12 +21,12 @@ unfolding ring
 few_ring cap l h n = omega (arith, length-take (min n cap) (drop (h % cap) (l ++ l)))
 
 -- no list of a state's pending entries is longer than their ring
-pub few_pending : (s : ProducerState) → length (view s).pending ≤ min s.core.rings.pending.len pending_size
-unfolding view
+pub few_pending : (s : State) → length (queue_of s).pending ≤ min s.core.rings.pending.len pending_size
+unfolding queue_of
 few_pending s = few_ring pending_size (slots_of s) s.core.rings.pending.head s.core.rings.pending.len
 
-pub all_pending : (s : ProducerState) → take pending_size (view s).pending ≡ (view s).pending
-all_pending s = take_all pending_size (view s).pending (omega (arith, few_pending s))
+pub all_pending : (s : State) → take pending_size (queue_of s).pending ≡ (queue_of s).pending
+all_pending s = take_all pending_size (queue_of s).pending (omega (arith, few_pending s))
 
 -- the loop that lists l in an array: its elements up to i stand there
 pub record Listing {A : Type 0} (cap n : ℕ) (l all : List A) (i : ℕ) : Type 0 where

@@ -9,8 +9,8 @@ use Rattle.types.specs.declared.types.SequenceId.{SequenceId}
 use Rattle.queue.specs.Queue.{with_pending}
 use Rattle.queue.specs.Sizes.{pending_size}
 use Rattle.queue.specs.Tables.{mark}
-use Rattle.producer.specs.View.{view, entries, slots_of}
-use Rattle.producer.specs.declared.state.ProducerState.{ProducerState}
+use Rattle.producer.specs.View.{queue_of, entries, slots_of}
+use Rattle.producer.specs.State.{State}
 use Rattle.producer.proofs.Full.{Full}
 
 -- every mark is set
@@ -29,7 +29,7 @@ marked_entries (i ∷ is) (m ∷ ms) (n ∷ ns) (p ∷ ps) e h =
     let rest : entries is ns ps ≡ map mark (entries is ms ps) = marked_entries is ms ns ps (omega arith) (and_right (not (eqb n 0)) (all_set ns) h) in
     λ j. record { sequence_id = i; answerable = first j; publish = p } ∷ rest j
 
-abbrev pub with_marks : List ℕ → ProducerState → ProducerState
+abbrev pub with_marks : List ℕ → State → State
 with_marks ns s =
     record {
       core = s.core;
@@ -40,13 +40,13 @@ with_marks ns s =
       pending_marks = ns;
     }
 
-pub marks_all : (s : ProducerState) → Full s → (ns : List ℕ) → length ns ≡ pending_size → all_set ns ≡ true
-    → view (with_marks ns s) ≡ with_pending (map mark (view s).pending) (view s)
-unfolding view
+pub marks_all : (s : State) → Full s → (ns : List ℕ) → length ns ≡ pending_size → all_set ns ≡ true
+    → queue_of (with_marks ns s) ≡ with_pending (map mark (queue_of s).pending) (queue_of s)
+unfolding queue_of
 marks_all s f ns len h =
     let head = s.core.rings.pending.head in
     let n = s.core.rings.pending.len in
     let e : ring pending_size (entries s.pending_ids ns s.pending) head n ≡ map mark (ring pending_size (slots_of s) head n) =
     ap (λ (l : List OpSend). ring pending_size l head n) (marked_entries s.pending_ids s.pending_marks ns s.pending (len ∙ sym f.marks) h)
     ∙ sym (ring_map mark pending_size (slots_of s) head n) in
-    λ j. with_pending (e j) (view s)
+    λ j. with_pending (e j) (queue_of s)

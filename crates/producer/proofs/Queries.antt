@@ -13,8 +13,8 @@ use Rattle.queue.specs.Ids.{delayed, elapsed, front_deadline, next_send_deadline
 use Rattle.queue.specs.Sizes.{pending_size}
 use Rattle.upkeep.specs.Deadline.{maybe_after, has_elapsed, unless_none}
 use Rattle.plans.specs.Ids.{send_deadline_of, batch_deadline_of}
-use Rattle.producer.specs.View.{view, slots_of}
-use Rattle.producer.specs.declared.state.ProducerState.{ProducerState}
+use Rattle.producer.specs.View.{queue_of, slots_of}
+use Rattle.producer.specs.State.{State}
 use Rattle.rules.specs.Blank.{no_entry}
 use Rattle.producer.proofs.Entries.{entries_at}
 use Rattle.producer.proofs.Full.{Full, slots}
@@ -30,8 +30,8 @@ num_unless n x = go (eqb n 0)
     go true = refl
     go false = refl
 
-pub batch_deadline_lem : (s : ProducerState) → (batch_deadline_of s.core) ≡ next_batch_deadline (view s)
-unfolding next_batch_deadline view
+pub batch_deadline_lem : (s : State) → (batch_deadline_of s.core) ≡ next_batch_deadline (queue_of s)
+unfolding next_batch_deadline queue_of
 batch_deadline_lem s =
     let c = s.core in
     let delay = c.settings.delays.batching_max_publish_delay in
@@ -42,14 +42,14 @@ has_elapsed_lem : (now : ℕ) (d : Option ℕ) → has_elapsed now d ≡ elapsed
 has_elapsed_lem now None = refl
 has_elapsed_lem now (Some d) = refl
 
-pub batch_elapsed_lem : (s : ProducerState) (now : ℕ) → has_elapsed now (batch_deadline_of s.core) ≡ batch_deadline_elapsed now (view s)
+pub batch_elapsed_lem : (s : State) (now : ℕ) → has_elapsed now (batch_deadline_of s.core) ≡ batch_deadline_elapsed now (queue_of s)
 unfolding batch_deadline_elapsed
 batch_elapsed_lem s now = has_elapsed_lem now (batch_deadline_of s.core) ∙ ap (elapsed now) (batch_deadline_lem s)
 
 -- the front entry's deadline
-pub send_deadline_lem : (s : ProducerState) → Full s → (at : ℕ) → at ≡ slot pending_size s.core.rings.pending.head 0 → (d : Publish)
-    → (send_deadline_of s.core (get_or s.pending at d).enqueued_at) ≡ next_send_deadline (view s)
-unfolding next_send_deadline view
+pub send_deadline_lem : (s : State) → Full s → (at : ℕ) → at ≡ slot pending_size s.core.rings.pending.head 0 → (d : Publish)
+    → (send_deadline_of s.core (get_or s.pending at d).enqueued_at) ≡ next_send_deadline (queue_of s)
+unfolding next_send_deadline queue_of
 send_deadline_lem s f at q d =
     num_unless n (maybe_after timeout sent)
     ∙ ap (λ (o : Option ℕ). pick (eqb n 0) None o) (num_after timeout sent)

@@ -12,16 +12,18 @@ use Rattle.types.specs.declared.types.MessageId.{MessageId}
 use Rattle.queue.specs.Queue.{Queue, Outcome, done, refuse, refused, with_pending, with_ids}
 use Rattle.queue.specs.Ids.{published}
 use Rattle.queue.specs.Settle.{bears, answerable, found, unmark, settle, apply_receipt, apply_send_error}
-use Rattle.plans.specs.Settle.{core_published}
 use Rattle.queue.specs.Told.{told_error}
-use Rattle.producer.specs.View.{view}
+use Rattle.types.specs.declared.stats.SequenceIds.{SequenceIds}
+use Rattle.plans.specs.State.{core_ids}
+use Rattle.producer.specs.State.{State, state_of}
+use Rattle.producer.specs.View.{queue_of, view}
 use Rattle.producer.specs.Settle.{settles_at, Settles}
 use Rattle.producer.specs.declared.state.ProducerState.{ProducerState}
 use Rattle.producer.specs.Apply.{store_core}
 use Rattle.producer.proofs.Settling.{Place, place, place_if, located_is}
 use Rattle.types.specs.declared.types.MessageIdData.{MessageIdData}
 
-map_without : {A B : Type 0} (f : A → B) (l : List A) (i : ℕ) → map f (lists.without l i) ≡ lists.without (map f l) i
+pub map_without : {A B : Type 0} (f : A → B) (l : List A) (i : ℕ) → map f (lists.without l i) ≡ lists.without (map f l) i
 map_without f l i = map_append f (take i l) (drop (i + 1) l) ∙ (λ j. map_take f i l j ++ map_drop f (i + 1) l j)
 
 -- the answer with what a call makes of the entry, and the queue with what it changes besides
@@ -51,11 +53,15 @@ module _ {A : Type 0} (id : ℕ) (s : ProducerState) (give : OpSend → A) (chan
       by a t (answerable id (view s).pending) (first_at (bears id) 0 (view s).pending) (place id (view s).pending)
       (subst (settles_at id s a t) (located_is id (view s).pending) h)
 
+-- other ids
+abbrev pub ids_stored : State → SequenceIds → State
+ids_stored s ids = store_core (core_ids ids s.core) s
+
 module _ (id : ℕ) (s t : ProducerState) where
   -- a receipt: the published number, and the message id beside the entry
   pub received : (m : Option MessageIdData) (op : OpSend) → Settles id s (Ok op) t
-      → ◌≡◌ {A = Outcome (OpSend × MessageId)} (view (store_core (core_published id t.core) t), done (op, of_receipt m)) (apply_receipt id m (view s))
-  unfolding apply_receipt view
+      → ◌≡◌ {A = Outcome (OpSend × MessageId)} (queue_of (ids_stored (state_of t) (published id (state_of t).core.ids)), done (op, of_receipt m)) (apply_receipt id m (view s))
+  unfolding apply_receipt queue_of
   received m op h = outcomes id s (λ (x : OpSend). (x, of_receipt m)) (λ p. with_ids (published id p.ids) p) (Ok op) t h
 
   pub not_received : (m : Option MessageIdData) (x : ProducerError) → Settles id s (Err x) t

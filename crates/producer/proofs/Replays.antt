@@ -20,8 +20,8 @@ use Rattle.queue.specs.Told.{told_error}
 use Rattle.tables.specs.Unborne.{free}
 use Rattle.plans.specs.Replay.{replay_count, replay_answer}
 use Rattle.producer.specs.Replay.{frame_id}
-use Rattle.producer.specs.View.{view}
-use Rattle.producer.specs.declared.state.ProducerState.{ProducerState}
+use Rattle.producer.specs.View.{queue_of}
+use Rattle.producer.specs.State.{State}
 use Rattle.producer.proofs.Full.{Full}
 use Rattle.producer.proofs.Borne.{unborne_ids}
 use Rattle.producer.proofs.Listed.{all_pending}
@@ -42,22 +42,22 @@ sat_test w f = go (dec_lt outbound_size (w + f))
 
 -- ── `replay_pending_outbound` ──
 
-module _ (s : ProducerState) where
+module _ (s : State) where
   abbrev pub left : List OpSend
-  left = unborne (view s).out.frames (view s).pending
+  left = unborne (queue_of s).out.frames (queue_of s).pending
 
   -- the entries chosen are those of the definition
-  pub found : (ids : List SequenceId) (ops l : List OpSend) → ids ≡ map frame_id (view s).out.frames → ops ≡ (view s).pending
+  pub found : (ids : List SequenceId) (ops l : List OpSend) → ids ≡ map frame_id (queue_of s).out.frames → ops ≡ (queue_of s).pending
       → l ≡ keeping (free ids) (take pending_size ops) → l ≡ left
   found ids ops l named listed e =
       e
       ∙ (λ j. keeping (free (named j)) (take pending_size (listed j)))
-      ∙ ap (keeping (free (map frame_id (view s).out.frames))) (all_pending s)
-      ∙ unborne_ids (view s).out.frames (view s).pending
+      ∙ ap (keeping (free (map frame_id (queue_of s).out.frames))) (all_pending s)
+      ∙ unborne_ids (queue_of s).out.frames (queue_of s).pending
 
-  pub counts : ends_as (replay_count (add_sat 0 (frames_for left)) s.core) (view s) (with_out (fronted left (view s).out) (view s))
-      ≡ replay_pending_outbound (view s)
-  unfolding view replay_pending_outbound
+  pub counts : ends_as (replay_count (add_sat 0 (frames_for left)) s.core) (queue_of s) (with_out (fronted left (queue_of s).out) (queue_of s))
+      ≡ replay_pending_outbound (queue_of s)
+  unfolding queue_of replay_pending_outbound
   counts = go (dec_lt outbound_size (w + f))
     where
       w : ℕ
@@ -67,34 +67,34 @@ module _ (s : ProducerState) where
       f = frames_for left
 
       after : Queue
-      after = with_out (fronted left (view s).out) (view s)
+      after = with_out (fronted left (queue_of s).out) (queue_of s)
 
       go : Dec (outbound_size < w + f)
-          → ends_as (pick (ltb outbound_size (w + add_sat 0 f)) (Err OutboundFull) (Ok (add_sat 0 f))) (view s) after
-          ≡ pick (ltb outbound_size (w + f)) (refuse 4 (view s)) (after, done f)
+          → ends_as (pick (ltb outbound_size (w + add_sat 0 f)) (Err OutboundFull) (Ok (add_sat 0 f))) (queue_of s) after
+          ≡ pick (ltb outbound_size (w + f)) (refuse 4 (queue_of s)) (after, done f)
       go (yes p) = rw (lt-ltb outbound_size (w + add_sat 0 f) (omega arith), lt-ltb outbound_size (w + f) p) refl
       go (no p) =
           let e : add_sat 0 f ≡ f = omega arith in
-          ap (λ (x : ℕ). ends_as (pick (ltb outbound_size (w + x)) (Err OutboundFull) (Ok x)) (view s) after) e ∙ last (ltb outbound_size (w + f))
+          ap (λ (x : ℕ). ends_as (pick (ltb outbound_size (w + x)) (Err OutboundFull) (Ok x)) (queue_of s) after) e ∙ last (ltb outbound_size (w + f))
         where
-          last : (b : Bool) → ends_as (pick b (Err OutboundFull) (Ok f)) (view s) after ≡ pick b (refuse 4 (view s)) (after, done f)
+          last : (b : Bool) → ends_as (pick b (Err OutboundFull) (Ok f)) (queue_of s) after ≡ pick b (refuse 4 (queue_of s)) (after, done f)
           last true = refl
           last false = refl
 
 -- ── `replay_snapshots` ──
 
-module _ (s : ProducerState) where
+module _ (s : State) where
   -- entries and frames at the front, one after the other
   abbrev pub replayed : List OpSend → Queue
-  replayed l = with_out (fronted l (view s).out) (with_pending (front_all pending_size (map mark l) (map mark (view s).pending)) (view s))
+  replayed l = with_out (fronted l (queue_of s).out) (with_pending (front_all pending_size (map mark l) (map mark (queue_of s).pending)) (queue_of s))
 
   -- where there is room for them
-  in_room : (l : List OpSend) → length l + length (view s).pending ≤ pending_size → replayed l ≡ put_back l (view s)
+  in_room : (l : List OpSend) → length l + length (queue_of s).pending ≤ pending_size → replayed l ≡ put_back l (queue_of s)
   in_room l b =
       let x : length (map mark l) ≡ length l = length-map l mark in
-      let y : length (map mark (view s).pending) ≡ length (view s).pending = length-map (view s).pending mark in
-      ap (λ (p : List OpSend). with_out (fronted l (view s).out) (with_pending p (view s)))
-      (front_room pending_size (map mark l) (map mark (view s).pending) (omega arith) ∙ sym (map_append mark l (view s).pending))
+      let y : length (map mark (queue_of s).pending) ≡ length (queue_of s).pending = length-map (queue_of s).pending mark in
+      ap (λ (p : List OpSend). with_out (fronted l (queue_of s).out) (with_pending p (queue_of s)))
+      (front_room pending_size (map mark l) (map mark (queue_of s).pending) (omega arith) ∙ sym (map_append mark l (queue_of s).pending))
 
   abbrev chosen : Bool → Bool → Bool → Result (Unit {0}) ProducerError
   chosen b1 b2 b3 = pick b1 (Err MalformedEntry) (pick b2 (Err PendingFull) (pick b3 (Err OutboundFull) (Ok tt)))
@@ -111,18 +111,18 @@ module _ (s : ProducerState) where
 
   -- what is stored matters only where neither 12 nor 7 refuses
   by_tests : (b1 b2 b3 : Bool) (a a' : Queue) → (b2 ≡ false → a ≡ a')
-      → ends_as (chosen b1 b2 b3) (view s) a ≡ pick b1 (refuse 12 (view s)) (pick b2 (refuse 7 (view s)) (pick b3 (refuse 4 (view s)) (a', done tt)))
+      → ends_as (chosen b1 b2 b3) (queue_of s) a ≡ pick b1 (refuse 12 (queue_of s)) (pick b2 (refuse 7 (queue_of s)) (pick b3 (refuse 4 (queue_of s)) (a', done tt)))
   by_tests true b2 b3 a a' h = refl
   by_tests false true b3 a a' h = refl
   by_tests false false true a a' h = refl
   by_tests false false false a a' h = λ j. (h refl j, done tt)
 
   pub replays : Full s → (l : List OpSend)
-      → ends_as (replay_answer (all_well_formed l) (length l) (add_sat 0 (frames_for l)) s.core) (view s) (replayed l) ≡ replay_snapshots l (view s)
-  unfolding view replay_snapshots
+      → ends_as (replay_answer (all_well_formed l) (length l) (add_sat 0 (frames_for l)) s.core) (queue_of s) (replayed l) ≡ replay_snapshots l (queue_of s)
+  unfolding queue_of replay_snapshots
   replays f l =
       (λ j.
-      ends_as (chosen (not (all_well_formed l)) (ltb pending_size (length l + sym (pending_length s f) j)) (sat_test s.core.rings.waiting (frames_for l) j)) (view s)
+      ends_as (chosen (not (all_well_formed l)) (ltb pending_size (length l + sym (pending_length s f) j)) (sat_test s.core.rings.waiting (frames_for l) j)) (queue_of s)
       (replayed l))
-      ∙ by_tests (not (all_well_formed l)) (ltb pending_size (length l + length (view s).pending)) (ltb outbound_size (s.core.rings.waiting + frames_for l)) (replayed l)
-      (put_back l (view s)) (λ e. in_room l (ltb-false pending_size (length l + length (view s).pending) e))
+      ∙ by_tests (not (all_well_formed l)) (ltb pending_size (length l + length (queue_of s).pending)) (ltb outbound_size (s.core.rings.waiting + frames_for l)) (replayed l)
+      (put_back l (queue_of s)) (λ e. in_room l (ltb-false pending_size (length l + length (queue_of s).pending) e))

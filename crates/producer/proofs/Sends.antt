@@ -1,5 +1,5 @@
 -- A send: the stores of its plan make the queue of the definition, and its answer is the definition's. Each way is a run of pushes. Assumes nothing.
-use Rattle.std.specs.Prelude.{Err, Ok}
+use Rattle.std.specs.Prelude.{Err, Ok, Result}
 use Rattle.std.proofs.Common.{◌≡◌, ℕ, ◌+◌, ◌*◌, min, Bool, true, false, not, ◌&&◌, ltb, leb, length, pos, sym, refl, ap, ◌∙◌, subst}
 use Rattle.laws.specs.Choice.{pick}
 use Rattle.laws.specs.Numbers.{add_sat}
@@ -9,6 +9,8 @@ use Rattle.types.specs.declared.entry.Replay.TheVariants as replay
 use Rattle.types.specs.declared.error.ProducerError.TheVariants.{Closed, PartOutside, OverBound, OutboundFull, HeldFull, PendingFull}
 use Rattle.types.specs.declared.frame.FrameKind.{FrameKind}
 use Rattle.types.specs.declared.frame.FrameKind.TheVariants as kind
+use Rattle.types.specs.declared.answer.SendDecision.{SendDecision}
+use Rattle.types.specs.declared.error.ProducerError.{ProducerError}
 use Rattle.types.specs.declared.way.Way.{Way}
 use Rattle.types.specs.declared.way.Way.TheVariants.{TooLarge, Join, Single, Chunked}
 use Rattle.queue.specs.Queue.{Queue, Outcome, with_out}
@@ -19,18 +21,17 @@ use Rattle.queue.specs.Told.{told_send}
 use Rattle.plans.specs.Delta.{counted_core, accepted}
 use Rattle.plans.specs.Batch.{flushed_if}
 use Rattle.plans.specs.Choose.{chosen, chosen_within}
-use Rattle.plans.specs.Send.{publish_of, frame_of, emitted, singled, joined, chunked, refused_large, joined_after, followed, plan_out, planned}
-use Rattle.plans.specs.declared.delta.SendDelta.{SendDelta}
+use Rattle.plans.specs.Send.{publish_of, frame_of, emitted, singled, joined, chunked, joined_after, followed, plan_out, planned, SendDelta}
 use Rattle.plans.specs.declared.send.Sending.{Sending}
-use Rattle.plans.specs.declared.send.Emitted.{Emitted}
-use Rattle.plans.specs.declared.send.Joined.{Joined}
-use Rattle.producer.specs.View.{view, entry_of}
-use Rattle.producer.specs.Apply.{store_core, store_frame, store_entry, store_held, applied}
-use Rattle.producer.specs.Send.{sending, KeptSend}
+use Rattle.producer.specs.View.{queue_of, entry_of}
+use Rattle.producer.specs.Apply.{store_core, store_entry, applied}
+use Rattle.producer.specs.Push.{after, emitted_state, joined_state}
+use Rattle.producer.specs.Send.{sending, KeptSend, Stays}
+use Rattle.producer.specs.State.{State}
 use Rattle.producer.specs.declared.state.ProducerState.{ProducerState}
 use Rattle.producer.proofs.Full.{Full, full_core, full_entry, full_held}
 use Rattle.producer.proofs.Views.{holding, pushes, holds, accepts, held_length, pending_length}
-use Rattle.producer.proofs.Flushes.{batching, after, flushes_if, full_flushed_lem}
+use Rattle.producer.proofs.Flushes.{batching, flushes_if, full_flushed_lem}
 
 -- what the definition calls a sending
 abbrev pub brought : Sending → send.Sending
@@ -38,17 +39,11 @@ brought a = sending a.message a.reservation.bytes a.uuid a.publish_time a.now
 
 -- ── one message ──
 
-abbrev emitted_state : Emitted → ProducerState → ProducerState
-emitted_state e s = store_entry e.entry (store_frame e.frame (store_core e.core s))
-
-abbrev joined_state : Joined → ProducerState → ProducerState
-joined_state e s = store_held e.held (store_entry e.entry (store_core e.core s))
-
-module _ (s : ProducerState) (f : Full s) where
+module _ (s : State) (f : Full s) where
   emits : (p : Publish) (k : FrameKind) (frames messages bytes : ℕ)
-      → view (emitted_state (emitted p k frames messages bytes s.core) s)
-      ≡ send.emit (frame_of s.core.ids.next_sequence_id.0 p k) frames messages bytes (send.accept (entry_of s.core.ids.next_sequence_id 1 p) (view s))
-  unfolding view
+      → queue_of (emitted_state (emitted p k frames messages bytes s.core) s)
+      ≡ send.emit (frame_of s.core.ids.next_sequence_id.0 p k) frames messages bytes (send.accept (entry_of s.core.ids.next_sequence_id 1 p) (queue_of s))
+  unfolding queue_of
   emits p k frames messages bytes =
       let c = s.core in
       let e = accepted p c in
@@ -58,14 +53,14 @@ module _ (s : ProducerState) (f : Full s) where
       let c2 = counted_core messages bytes e.core in
       pushes (store_core c2 s1) (full_core s1 f1 c2) r frames ∙ ap (send.emit r frames messages bytes) (accepts s f p)
 
-  singles : (a : Sending) → view (emitted_state (singled a s.core) s) ≡ send.emit_single (brought a) (view s)
-  unfolding send.emit_single view
+  singles : (a : Sending) → queue_of (emitted_state (singled a s.core) s) ≡ send.emit_single (brought a) (queue_of s)
+  unfolding send.emit_single queue_of
   singles a =
       let n = at_least_one a.message.num_messages in
       emits (publish_of a (pos n) replay.Single s.core) kind.Single 1 n a.message.payload.len
 
-  chunks : (a : Sending) (size count : ℕ) → view (emitted_state (chunked a size count s.core) s) ≡ send.emit_chunked (brought a) size count (view s)
-  unfolding send.emit_chunked view
+  chunks : (a : Sending) (size count : ℕ) → queue_of (emitted_state (chunked a size count s.core) s) ≡ send.emit_chunked (brought a) size count (queue_of s)
+  unfolding send.emit_chunked queue_of
   chunks a size count =
       emits (publish_of a (pos 1) (replay.Chunked count size) s.core)
       (kind.Chunked (record { total_chunks = count; next_chunk = 0; max_chunk_size = size }))
@@ -73,8 +68,8 @@ module _ (s : ProducerState) (f : Full s) where
       count
       (min a.message.payload.len (count * size))
 
-  joins : (a : Sending) → view (joined_state (joined a s.core) s) ≡ send.add_to_batch (brought a) (view s)
-  unfolding send.add_to_batch view
+  joins : (a : Sending) → queue_of (joined_state (joined a s.core) s) ≡ send.add_to_batch (brought a) (queue_of s)
+  unfolding send.add_to_batch queue_of
   joins a =
       let c = s.core in
       let p = publish_of a (pos 1) replay.Batched c in
@@ -92,50 +87,52 @@ module _ (s : ProducerState) (f : Full s) where
 
 -- ── a way ──
 
-module _ (s : ProducerState) (f : Full s) (a : Sending) where
-  -- what a plan of a send says of the state that it is applied to
+module _ (s : State) (f : Full s) (a : Sending) (old new : ProducerState) where
+  -- what a plan of a send says of the state that it is applied to, and of the rows that it leaves
   abbrev pub Sends : SendDelta → Outcome send.Decision → Type 0
   Sends d o =
-      ◌≡◌ {A = Outcome send.Decision} (view (applied d s), told_send d.answer) o
-      × KeptSend a.message (view s) (told_send d.answer) s (applied d s)
+      ◌≡◌ {A = Outcome send.Decision} (queue_of (applied d s), told_send d.answer) o
+      × KeptSend a.message (queue_of s) (told_send d.answer) old new
 
   -- a way is carried out
   abbrev Follows : Way → Type 0
-  Follows w = Sends (followed w a s.core) (send.follow (brought a) w (view s), send.answer_of (brought a) (view s) w)
+  Follows w = Stays w old new → Sends (followed w a s.core) (send.follow (brought a) w (queue_of s), send.answer_of (brought a) (queue_of s) w)
+
+  -- the rows that a decision leaves: a refusal changes none
+  abbrev Leaves : Result Way ProducerError → Type 0
+  Leaves (Err x) = new ≡ old
+  Leaves (Ok w) = Stays w old new
 
   -- after the flush before
-  flushed_state : Bool → ProducerState
+  flushed_state : Bool → State
   flushed_state before = after (flushed_if before a.publish_time s.core) s
 
-  one_way : (before : Bool) → view (flushed_state before) ≡ send.flush_if before a.publish_time (view s)
+  one_way : (before : Bool) → queue_of (flushed_state before) ≡ send.flush_if before a.publish_time (queue_of s)
   unfolding flushed_state
   one_way before = flushes_if s f a.publish_time before
 
   large : (before : Bool) → before ≡ send.flushes_before s.core.settings a.message s.core.batch → Follows (TooLarge before)
-  unfolding followed send.follow flushed_state view
-  large before e = (
-    (λ j. (one_way before j, send.answer_of (brought a) (view s) (TooLarge before))),
-    (λ h. ap (λ (b : Bool). applied (refused_large b a s.core) s) (e ∙ h)),
-  )
+  unfolding followed send.follow flushed_state queue_of
+  large before e same = ((λ j. (one_way before j, send.answer_of (brought a) (queue_of s) (TooLarge before))), (λ h. same (e ∙ h)))
 
   single : (before : Bool) → Follows (Single before)
   unfolding followed send.follow flushed_state
-  single before = (
+  single before same = (
     (λ j. (
       (singles (flushed_state before) (full_flushed_lem s f a.publish_time before) a ∙ ap (send.emit_single (brought a)) (one_way before)) j,
-      send.answer_of (brought a) (view s) (Single before),
+      send.answer_of (brought a) (queue_of s) (Single before),
     )),
     tt,
   )
 
   cut : (before : Bool) (size count : ℕ) → Follows (Chunked before size count)
   unfolding followed send.follow flushed_state
-  cut before size count = (
+  cut before size count same = (
     (λ j. (
       (chunks (flushed_state before) (full_flushed_lem s f a.publish_time before) a size count
           ∙ ap (send.emit_chunked (brought a) size count) (one_way before))
           j,
-      send.answer_of (brought a) (view s) (Chunked before size count),
+      send.answer_of (brought a) (queue_of s) (Chunked before size count),
     )),
     tt,
   )
@@ -148,11 +145,11 @@ module _ (s : ProducerState) (f : Full s) (a : Sending) where
 
   join : (before : Bool) → Follows (Join before (fills before))
   unfolding followed send.follow flushed_state fills
-  join before = (λ j. (go before j, send.answer_of (brought a) (view s) (Join before true)), tt)
+  join before same = (λ j. (go before j, send.answer_of (brought a) (queue_of s) (Join before true)), tt)
     where
       go : (before : Bool)
-          → view (applied (joined_after before a s.core) s)
-          ≡ send.flush_if (fills before) a.publish_time (send.add_to_batch (brought a) (send.flush_if before a.publish_time (view s)))
+          → queue_of (applied (joined_after before a s.core) s)
+          ≡ send.flush_if (fills before) a.publish_time (send.add_to_batch (brought a) (send.flush_if before a.publish_time (queue_of s)))
       go true =
           let s1 = flushed_state true in
           let f1 = full_flushed_lem s f a.publish_time true in
@@ -196,19 +193,20 @@ module _ (s : ProducerState) (f : Full s) (a : Sending) where
       (pick (leb pending_size pendingCount) (send.no 7)
       (send.go w)))))))
 
-  chain : (b1 b2 b3 b4 b5 b6 b7 : Bool) (w : Way) → Follows w
-      → Sends
-      (plan_out
-      (pick b1 (Err Closed)
+  abbrev decided : (b1 b2 b3 b4 b5 b6 b7 : Bool) → Way → Result Way ProducerError
+  decided b1 b2 b3 b4 b5 b6 b7 w =
+      pick b1 (Err Closed)
       (pick b2 (Err PartOutside)
       (pick b3 (Err OverBound)
       (pick b4 (Err OutboundFull)
       (pick b5 (Err HeldFull)
       (pick (not b6 && b7) (Err PendingFull)
-      (Ok w)))))))
-      a
-      s.core)
-      (send.carried_out (brought a) (view s)
+      (Ok w))))))
+
+  chain : (b1 b2 b3 b4 b5 b6 b7 : Bool) (w : Way) → Follows w → Leaves (decided b1 b2 b3 b4 b5 b6 b7 w)
+      → Sends
+      (plan_out (decided b1 b2 b3 b4 b5 b6 b7 w) a s.core)
+      (send.carried_out (brought a) (queue_of s)
       (pick b1 (send.no 1)
       (pick b2 (send.no 2)
       (pick b3 (send.no 3)
@@ -217,27 +215,27 @@ module _ (s : ProducerState) (f : Full s) (a : Sending) where
       (pick b6 (send.go w)
       (pick b7 (send.no 7)
       (send.go w)))))))))
-  chain true b2 b3 b4 b5 b6 b7 w h = (refl, λ e. refl)
-  chain false true b3 b4 b5 b6 b7 w h = (refl, λ e. refl)
-  chain false false true b4 b5 b6 b7 w h = (refl, λ e. refl)
-  chain false false false true b5 b6 b7 w h = (refl, λ e. refl)
-  chain false false false false true b6 b7 w h = (refl, λ e. refl)
-  chain false false false false false true b7 w h = h
-  chain false false false false false false true w h = (refl, λ e. refl)
-  chain false false false false false false false w h = h
+  chain true b2 b3 b4 b5 b6 b7 w h same = (refl, λ e. same)
+  chain false true b3 b4 b5 b6 b7 w h same = (refl, λ e. same)
+  chain false false true b4 b5 b6 b7 w h same = (refl, λ e. same)
+  chain false false false true b5 b6 b7 w h same = (refl, λ e. same)
+  chain false false false false true b6 b7 w h same = (refl, λ e. same)
+  chain false false false false false true b7 w h same = h same
+  chain false false false false false false true w h same = (refl, λ e. same)
+  chain false false false false false false false w h same = h same
 
-  plan_is : (n : ℕ) → plan_by n (length (view s).out.held) (length (view s).pending) ≡ send.plan n (brought a) (view s)
-  unfolding send.plan plan_by view
+  plan_is : (n : ℕ) → plan_by n (length (queue_of s).out.held) (length (queue_of s).pending) ≡ send.plan n (brought a) (queue_of s)
+  unfolding send.plan plan_by queue_of
   plan_is n = refl
 
-  pub plan_sends : (n : ℕ) → Sends (planned n a s.core) (send.queue_send n (brought a) (view s))
+  plan_sends : (n : ℕ) → Leaves (chosen n a.message a.reservation.bytes s.core) → Sends (planned n a s.core) (send.queue_send n (brought a) (queue_of s))
   unfolding planned chosen chosen_within send.queue_send plan_by
-  plan_sends n =
+  plan_sends n same =
       let k = s.core in
       let m = a.message in
       let w = send.way_of k.settings m k.batch in
       let d = planned n a k in
-      let q = view s in
+      let q = queue_of s in
       subst (λ (p : send.Plan). Sends d (send.carried_out (brought a) q p)) (plan_is n)
       (subst (λ (l : ℕ). Sends d (send.carried_out (brought a) q (plan_by n l (length q.pending)))) (sym (held_length s f))
       (subst (λ (l : ℕ). Sends d (send.carried_out (brought a) q (plan_by n (min k.rings.held.len held_size) l))) (sym (pending_length s f))
@@ -250,4 +248,27 @@ module _ (s : ProducerState) (f : Full s) (a : Sending) where
       (send.is_too_large w)
       (leb pending_size (min k.rings.pending.len pending_size))
       w
-      takes)))
+      takes
+      same)))
+
+  decides : (n : ℕ) (r : Result Way ProducerError) → chosen n a.message a.reservation.bytes s.core ≡ r → Leaves r
+      → Sends (plan_out r a s.core) (send.queue_send n (brought a) (queue_of s))
+  unfolding planned
+  decides n r e same =
+      subst (λ (x : Result Way ProducerError). Sends (plan_out x a s.core) (send.queue_send n (brought a) (queue_of s))) e (plan_sends n (subst Leaves (sym e) same))
+
+  -- by the way that is chosen, and what is carried out of it
+  pub send_done : (n : ℕ) (w : Way) → chosen n a.message a.reservation.bytes s.core ≡ Ok w → (answer : Result SendDecision ProducerError) (t : State)
+      → t ≡ applied (followed w a s.core) s → answer ≡ (followed w a s.core).answer → Stays w old new
+      → ◌≡◌ {A = Outcome send.Decision} (queue_of t, told_send answer) (send.queue_send n (brought a) (queue_of s))
+      × KeptSend a.message (queue_of s) (told_send answer) old new
+  send_done n w e answer t stored told same =
+      let both = decides n (Ok w) e same in (
+        (λ j. (queue_of (stored j), told_send (told j))) ∙ both.0,
+        subst (λ (x : Result SendDecision ProducerError). KeptSend a.message (queue_of s) (told_send x) old new) (sym told) both.1,
+      )
+
+  pub send_refused : (n : ℕ) (x : ProducerError) → chosen n a.message a.reservation.bytes s.core ≡ Err x → new ≡ old
+      → ◌≡◌ {A = Outcome send.Decision} (queue_of s, told_send (Err x)) (send.queue_send n (brought a) (queue_of s))
+      × KeptSend a.message (queue_of s) (told_send (Err x)) old new
+  send_refused n x e same = decides n (Err x) e same

@@ -34,17 +34,28 @@ use Rattle.frames.specs.Span.{name_in, borne, span_of, is_batch, held_count}
 use Rattle.producer.proofs.Payload.{payload_of, Writable}
 use Rattle.frames.specs.Answer.{fitting, answer_of}
 use Rattle.frames.specs.Outbound.{present_if, frame_out}
-use Rattle.frames.specs.After.{has_next, stays_of, record_after}
+use Rattle.frames.specs.After.{has_next, stays_of, kind_after}
 use Rattle.rules.specs.Rings.{without_front}
-use Rattle.plans.specs.Take.{core_taken, plan_of, plan_with, take_planned}
-use Rattle.plans.specs.declared.state.Core.{Core}
+use Rattle.plans.specs.Take.{rings_taken, plan_of, plan_with, take_planned}
+use Rattle.plans.specs.State.{core_rings}
+use Rattle.types.specs.declared.types.ProducerHandle.{ProducerHandle}
+use Rattle.rows.specs.Frame.{decode_frame, decode_kind}
+use Rattle.rows.specs.Rings.{decode_rings}
+use Rattle.rows.specs.declared.frame.FrameRow.{FrameRow}
+use Rattle.rows.specs.declared.frame.KindRow.{KindRow}
+use Rattle.rows.specs.declared.rings.RingsRow.{RingsRow}
+use lib.ListN.{get_or-map}
+use Rattle.std.specs.Prelude.{map}
+use Rattle.producer.proofs.Rows.{stored_row}
+use Rattle.producer.specs.declared.state.ProducerState.{ProducerState}
 use Rattle.frames.specs.declared.span.Span.{Span}
 use Rattle.plans.specs.declared.take.TakePlan.{TakePlan}
 use Rattle.frames.proofs.Batches.{all_in_lem}
 use Rattle.frames.proofs.Pieces.{some_picked, is_there, there_if, piece_of}
-use Rattle.producer.specs.View.{view}
+use Rattle.producer.specs.View.{queue_of}
 use Rattle.producer.specs.Take.{name_told, frame_told, told_frame, OwnParts}
-use Rattle.producer.specs.declared.state.ProducerState.{ProducerState}
+use Rattle.rules.specs.declared.rings.Rings.{Rings}
+use Rattle.producer.specs.State.{State, state_of}
 use Rattle.producer.proofs.Full.{Full}
 use Rattle.types.specs.declared.error.ProducerError.{ProducerError}
 
@@ -88,20 +99,20 @@ same_err : (e f : ProducerError) → ◌≡◌ {A = Result Span ProducerError} (
 same_err e f t = cc
 
 -- what a plan tells of its test
-record Planned (c : Core) (r : FrameRecord) (count : ℕ) (o : Result Span ProducerError) (p : TakePlan) : Type 0 where
+record Planned (handle : ProducerHandle) (rings : Rings) (r : FrameRecord) (count : ℕ) (o : Result Span ProducerError) (p : TakePlan) : Type 0 where
   goes : o ≡ Ok p.span
-  same : plan_of c r count p.span ≡ p
+  same : plan_of handle rings r count p.span ≡ p
 
-ok_planned : (c : Core) (r : FrameRecord) (count : ℕ) (o : Result Span ProducerError) (p : TakePlan) → plan_with c r count o ≡ Ok p → Planned c r count o p
-ok_planned c r count (Ok x) p e =
-    let same : plan_of c r count x ≡ p = cc in
+ok_planned : (handle : ProducerHandle) (rings : Rings) (r : FrameRecord) (count : ℕ) (o : Result Span ProducerError) (p : TakePlan) → plan_with handle rings r count o ≡ Ok p → Planned handle rings r count o p
+ok_planned handle rings r count (Ok x) p e =
+    let same : plan_of handle rings r count x ≡ p = cc in
     let span : x ≡ p.span = ap (λ (q : TakePlan). q.span) same in
-    record { goes = ap Ok span; same = subst (λ (y : Span). plan_of c r count y ≡ p) span same }
-ok_planned c r count (Err x) p e = differ (cc)
+    record { goes = ap Ok span; same = subst (λ (y : Span). plan_of handle rings r count y ≡ p) span same }
+ok_planned handle rings r count (Err x) p e = differ (cc)
 
-err_planned : (c : Core) (r : FrameRecord) (count : ℕ) (o : Result Span ProducerError) (f : ProducerError) → plan_with c r count o ≡ Err f → o ≡ Err f
-err_planned c r count (Ok x) f e = differ (cc)
-err_planned c r count (Err x) f e = let same : x ≡ f = cc in ap Err same
+err_planned : (handle : ProducerHandle) (rings : Rings) (r : FrameRecord) (count : ℕ) (o : Result Span ProducerError) (f : ProducerError) → plan_with handle rings r count o ≡ Err f → o ≡ Err f
+err_planned handle rings r count (Ok x) f e = differ (cc)
+err_planned handle rings r count (Err x) f e = let same : x ≡ f = cc in ap Err same
 
 -- what a frame's name says
 clip : (n : ProducerName) → name_of (clipped n) ≡ name_of n
@@ -139,20 +150,35 @@ some_message =
 
 -- ── the front record ──
 
+-- the record with its next frame, by its kind
+abbrev record_after : FrameRecord → FrameKind → FrameRecord
+record_after r Single = r
+record_after r (Batch b) = r
+record_after r (Chunked c) = pick (has_next c) (with_kind (Chunked (next_chunk c)) r) r
+
+next_is : (r : FrameRecord) (k : FrameKind) → r.kind ≡ k → record r { kind = kind_after k } ≡ record_after r k
+next_is r Single e = λ j. record r { kind = sym e j }
+next_is r (Batch b) e = λ j. record r { kind = sym e j }
+next_is r (Chunked c) e = go (has_next c)
+  where
+    go : (b : Bool) → record r { kind = pick b (Chunked (next_chunk c)) (Chunked c) } ≡ pick b (with_kind (Chunked (next_chunk c)) r) r
+    go true = refl
+    go false = λ j. record r { kind = sym e j }
+
 -- which stands at the first slot
-module _ (s : ProducerState) (f : Full s) (d : FrameRecord) (at : ℕ) (q : at ≡ slot outbound_size s.core.rings.outbound.head 0) where
+module _ (s : State) (f : Full s) (d : FrameRecord) (at : ℕ) (q : at ≡ slot outbound_size s.core.rings.outbound.head 0) where
   abbrev pub front_of : FrameRecord
   front_of = get_or s.outbound at d
 
   abbrev behind : List FrameRecord
   behind = ring outbound_size s.outbound (slot outbound_size s.core.rings.outbound.head 1) (min s.core.rings.outbound.len outbound_size - 1)
 
-  none_waiting : s.core.rings.outbound.len ≡ 0 → (view s).out.frames ≡ []
-  unfolding view
+  none_waiting : s.core.rings.outbound.len ≡ 0 → (queue_of s).out.frames ≡ []
+  unfolding queue_of
   none_waiting z = ap (ring outbound_size s.outbound s.core.rings.outbound.head) z ∙ ring_none outbound_size s.outbound s.core.rings.outbound.head
 
-  some_waiting : 0 < s.core.rings.outbound.len → (view s).out.frames ≡ front_of ∷ behind
-  unfolding view
+  some_waiting : 0 < s.core.rings.outbound.len → (queue_of s).out.frames ≡ front_of ∷ behind
+  unfolding queue_of
   some_waiting b =
       ring_pop outbound_size (lit< tt) s.outbound f.outbound d s.core.rings.outbound.head s.core.rings.outbound.len (omega arith)
       ∙ ap (λ (k : ℕ). get_or s.outbound k d ∷ behind) (sym q)
@@ -160,7 +186,7 @@ module _ (s : ProducerState) (f : Full s) (d : FrameRecord) (at : ℕ) (q : at �
   -- what a store in its slot leaves, with the head where it was and moved on
   module _ (b : 0 < s.core.rings.outbound.len) (x : FrameRecord) where
     stored : ring outbound_size (set s.outbound at x) s.core.rings.outbound.head s.core.rings.outbound.len ≡ x ∷ behind
-    unfolding view
+    unfolding queue_of
     stored =
         let h = s.core.rings.outbound.head in
         let n = s.core.rings.outbound.len in
@@ -219,21 +245,21 @@ module _ (s : ProducerState) (f : Full s) (d : FrameRecord) (at : ℕ) (q : at �
       ap (λ (j : ℕ). ring held_size s.held (slot held_size h j) (min n held_size - j)) gone ∙ ring_drops held_size (lit< tt) s.held f.held m h n (holds k)
 
   -- the state once the frame is gone
-  abbrev pub state_after : FrameRecord → ProducerState
+  abbrev pub state_after : FrameRecord → State
   state_after r =
       record s {
-        core = core_taken (stays_of r.kind) (held_count r.kind s.core.rings.held.len) s.core;
+        core = core_rings (rings_taken (stays_of r.kind) (held_count r.kind s.core.rings.held.len) s.core.rings) s.core;
         outbound = set s.outbound at (record_after r r.kind);
       }
 
   after_is : SingleMessage → 0 < s.core.rings.outbound.len → (r : FrameRecord)
-      → view (state_after r) ≡ with_out (after_take r behind (view s).out) (view s)
-  unfolding view
+      → queue_of (state_after r) ≡ with_out (after_take r behind (queue_of s).out) (queue_of s)
+  unfolding queue_of
   after_is m b r =
       λ j.
       with_out
       (record { frames = rest_is b r r.kind j; waiting = s.core.rings.waiting - 1; held = dropped_is m r.kind j; batch = s.core.batch })
-      (view s)
+      (queue_of s)
 
   -- ── the frame ──
 
@@ -313,20 +339,20 @@ module _ (s : ProducerState) (f : Full s) (d : FrameRecord) (at : ℕ) (q : at �
 
   -- ── the answer ──
 
-  abbrev pub Takes : List ℕ → List ℕ → List ℕ → Result OutboundFrame ProducerError → ProducerState → Type 0
+  abbrev pub Takes : List ℕ → List ℕ → List ℕ → Result OutboundFrame ProducerError → State → Type 0
   Takes store before after a t =
-      (◌≡◌ {A = Queue × Answer Frame} (view t, told_frame store after a) (next_outbound_frame store (length before) (view s)))
+      (◌≡◌ {A = Queue × Answer Frame} (queue_of t, told_frame store after a) (next_outbound_frame store (length before) (queue_of s)))
       × ((after ≡ written (told_frame store after a) before)
-      × (OwnParts store (view s) (view s).out.frames a × Kept (told_frame store after a) s t))
+      × (OwnParts store (queue_of s) (queue_of s).out.frames a × Kept (told_frame store after a) s t))
 
   -- the length that is answered is the planned one
-  counted : (store before after : List ℕ) (f : OutboundFrame) (n : ℕ) (t : ProducerState)
+  counted : (store before after : List ℕ) (f : OutboundFrame) (n : ℕ) (t : State)
       → n ≡ f.payload_len → Takes store before after (Ok f) t → Takes store before after (Ok (record f { payload_len = n })) t
   counted store before after f n t e = subst (λ (m : ℕ). Takes store before after (Ok (record f { payload_len = m })) t) (sym e)
 
   -- the state with the plan's stores
-  abbrev pub stored_as : TakePlan → ProducerState
-  stored_as p = record s { core = p.core; outbound = set s.outbound at p.slot }
+  abbrev pub stored_as : TakePlan → State
+  stored_as p = record s { core = core_rings p.rings s.core; outbound = set s.outbound at (record front_of { kind = p.kind }) }
 
   module _ (store before : List ℕ) (small : length store < 2 ^ 63) (short : length before < 2 ^ 63) where
     abbrev kind : FrameKind
@@ -338,20 +364,20 @@ module _ (s : ProducerState) (f : Full s) (d : FrameRecord) (at : ℕ) (q : at �
     abbrev answer : Result Span ProducerError
     answer = answer_of s.core.rings.outbound.len span (length before)
 
-    nothing : s.core.rings.outbound.len ≡ 0 → next_outbound_frame store (length before) (view s) ≡ refuse 10 (view s)
+    nothing : s.core.rings.outbound.len ≡ 0 → next_outbound_frame store (length before) (queue_of s) ≡ refuse 10 (queue_of s)
     unfolding next_outbound_frame
-    nothing z = ap (take_from store (length before) (view s)) (none_waiting z)
+    nothing z = ap (take_from store (length before) (queue_of s)) (none_waiting z)
 
     module _ (p : 0 < s.core.rings.outbound.len) where
-      opened : next_outbound_frame store (length before) (view s)
+      opened : next_outbound_frame store (length before) (queue_of s)
           ≡ pick (frame_in (length store) front_of kind held_list)
-          (pick (ltb (length before) (length (frame_for store front_of kind).payload)) (refuse 9 (view s))
-          (with_out (after_take front_of behind (view s).out) (view s), done (frame_for store front_of kind)))
-          (refuse 2 (view s))
-      unfolding next_outbound_frame view
-      opened = ap (take_from store (length before) (view s)) (some_waiting p)
+          (pick (ltb (length before) (length (frame_for store front_of kind).payload)) (refuse 9 (queue_of s))
+          (with_out (after_take front_of behind (queue_of s).out) (queue_of s), done (frame_for store front_of kind)))
+          (refuse 2 (queue_of s))
+      unfolding next_outbound_frame queue_of
+      opened = ap (take_from store (length before) (queue_of s)) (some_waiting p)
 
-      outside : span ≡ None → next_outbound_frame store (length before) (view s) ≡ refuse 2 (view s)
+      outside : span ≡ None → next_outbound_frame store (length before) (queue_of s) ≡ refuse 2 (queue_of s)
       outside i = opened ∙ pick_false _ _ (inside_is store front_of kind ∙ ap is_there i)
 
       module _ (g : Span) (i : span ≡ Some g) where
@@ -363,20 +389,20 @@ module _ (s : ProducerState) (f : Full s) (d : FrameRecord) (at : ℕ) (q : at �
             sym (stopped_test (length before) (length (frame_for store front_of kind).payload) short)
             ∙ ap (ltb (length before)) (written_is store front_of small kind g i).size
 
-        too_short : ltb (length before) g.len ≡ true → next_outbound_frame store (length before) (view s) ≡ refuse 9 (view s)
+        too_short : ltb (length before) g.len ≡ true → next_outbound_frame store (length before) (queue_of s) ≡ refuse 9 (queue_of s)
         too_short t = opened ∙ pick_true _ _ within ∙ pick_true _ _ (test ∙ t)
 
         goes : ltb (length before) g.len ≡ false
-            → next_outbound_frame store (length before) (view s) ≡ (with_out (after_take front_of behind (view s).out) (view s), done (frame_for store front_of kind))
+            → next_outbound_frame store (length before) (queue_of s) ≡ (with_out (after_take front_of behind (queue_of s).out) (queue_of s), done (frame_for store front_of kind))
         goes t = opened ∙ pick_true _ _ within ∙ pick_false _ _ (test ∙ t)
 
     -- the struct that is answered
     own_is : 0 < s.core.rings.outbound.len → (len : ℕ) → length (frame_for store front_of kind).payload ≡ len
         → frame_in (length store) front_of kind held_list ≡ true
-        → OwnParts store (view s) (view s).out.frames (Ok (frame_out s.core.handle front_of kind len))
-    unfolding view
+        → OwnParts store (queue_of s) (queue_of s).out.frames (Ok (frame_out s.core.handle front_of kind len))
+    unfolding queue_of
     own_is p len size within =
-        subst (λ (rs : List FrameRecord). OwnParts store (view s) rs (Ok (frame_out s.core.handle front_of kind len)))
+        subst (λ (rs : List FrameRecord). OwnParts store (queue_of s) rs (Ok (frame_out s.core.handle front_of kind len)))
         (sym (some_waiting p))
         (ap (frame_out s.core.handle front_of kind) (sym size), within)
 
@@ -462,27 +488,70 @@ module _ (s : ProducerState) (f : Full s) (d : FrameRecord) (at : ℕ) (q : at �
     abbrev held_first : ℕ → List SingleMessage
     held_first count = ring held_size s.held s.core.rings.held.head count
 
-    module _ (got : Option Span) (count : ℕ) (ce : count ≡ held_count kind s.core.rings.held.len) (se : got ≡ span_of (length store) front_of kind (held_first count))
-        (plan : Result TakePlan ProducerError) (pe : plan ≡ take_planned s.core front_of got count (length before)) where
-      planned_is : plan ≡ plan_with s.core front_of (held_count kind s.core.rings.held.len) answer
+    module _ (front : FrameRecord) (rings : Rings) (fe : front ≡ front_of) (re : rings ≡ s.core.rings)
+        (got : Option Span) (count : ℕ) (ce : count ≡ held_count front.kind rings.held.len)
+        (se : got ≡ span_of (length store) front front.kind (ring held_size s.held rings.held.head count))
+        (plan : Result TakePlan ProducerError) (pe : plan ≡ take_planned s.core.handle rings front got count (length before)) where
+      counted_is : count ≡ held_count kind s.core.rings.held.len
+      counted_is = ce ∙ (λ j. held_count (fe j).kind (re j).held.len)
+
+      planned_is : plan ≡ plan_with s.core.handle s.core.rings front_of (held_count kind s.core.rings.held.len) answer
       planned_is =
           pe
-          ∙ ap (λ (o : Option Span). take_planned s.core front_of o count (length before)) se
-          ∙ ap (λ (c : ℕ). take_planned s.core front_of (span_of (length store) front_of kind (held_first c)) c (length before)) ce
+          ∙ (λ j. take_planned s.core.handle (re j) (fe j) got count (length before))
+          ∙ ap (λ (o : Option Span). take_planned s.core.handle s.core.rings front_of o count (length before))
+          (se ∙ (λ j. span_of (length store) (fe j) (fe j).kind (ring held_size s.held (re j).held.head count)))
+          ∙ ap (λ (c : ℕ). take_planned s.core.handle s.core.rings front_of (span_of (length store) front_of kind (held_first c)) c (length before)) counted_is
 
       pub takes_refused : (e : ProducerError) → plan ≡ Err e → Takes store before before (Err e) s
-      takes_refused e t = refused_is e (err_planned s.core front_of (held_count kind s.core.rings.held.len) answer e (sym planned_is ∙ t))
+      takes_refused e t = refused_is e (err_planned s.core.handle s.core.rings front_of (held_count kind s.core.rings.held.len) answer e (sym planned_is ∙ t))
 
       module _ (p : TakePlan) (t : plan ≡ Ok p) where
-        planned : Planned s.core front_of (held_count kind s.core.rings.held.len) answer p
-        planned = ok_planned s.core front_of (held_count kind s.core.rings.held.len) answer p (sym planned_is ∙ t)
+        planned : Planned s.core.handle s.core.rings front_of (held_count kind s.core.rings.held.len) answer p
+        planned = ok_planned s.core.handle s.core.rings front_of (held_count kind s.core.rings.held.len) answer p (sym planned_is ∙ t)
 
-        pub takes_done : (after : List ℕ) (x n : ℕ) → n ≡ p.frame.payload_len → Puts (payload_of store kind p.span (held_first count)) before after x
-            → Takes store before after (Ok (record p.frame { payload_len = n })) (stored_as p)
-        takes_done after x n e v =
-            counted store before after p.frame n (stored_as p) e
+        -- the state with this record in the front slot
+        abbrev at_front : FrameRecord → State
+        at_front r =
+            record s {
+              core = core_rings (rings_taken (stays_of kind) (held_count kind s.core.rings.held.len) s.core.rings) s.core;
+              outbound = set s.outbound at r;
+            }
+
+        -- of the record and rings that the code has read
+        abbrev of_read : (FrameKind → List SingleMessage → Type 0) → FrameRecord × Rings → Type 0
+        of_read f x = f x.0.kind (ring held_size s.held x.1.held.head count)
+
+        pub takes_done : (after : List ℕ) (x n : ℕ) → n ≡ p.frame.payload_len
+            → Puts (payload_of store front.kind p.span (ring held_size s.held rings.held.head count)) before after x
+            → (u : State) → u ≡ stored_as p
+            → Takes store before after (Ok (record p.frame { payload_len = n })) u
+        takes_done after x n e v u left =
+            let puts : FrameKind → List SingleMessage → Type 0 = λ k ms. Puts (payload_of store k p.span ms) before after x in
+            let w = subst (of_read puts) (λ j. (fe j, re j)) v in
+            subst (Takes store before after (Ok (record p.frame { payload_len = n }))) (sym left)
+            (counted store before after p.frame n (stored_as p) e
             (subst (λ (q : TakePlan). Takes store before after (Ok q.frame) (stored_as q)) planned.same
-            (done_is p.span planned.goes after x (subst (λ (c : ℕ). Puts (payload_of store kind p.span (held_first c)) before after x) ce v)))
+            (subst (λ (r : FrameRecord). Takes store before after (Ok (frame_out s.core.handle front_of kind p.span.len)) (at_front r)) (sym (next_is front_of kind refl))
+            (done_is p.span planned.goes after x (subst (λ (c : ℕ). Puts (payload_of store kind p.span (held_first c)) before after x) counted_is w)))))
 
-        pub takes_writable : Writable store kind p.span (held_first count) before
-        takes_writable = subst (λ (c : ℕ). Writable store kind p.span (held_first c) before) (sym ce) (writable_is p.span planned.goes)
+        pub takes_writable : Writable store front.kind p.span (ring held_size s.held rings.held.head count) before
+        takes_writable =
+            let room : FrameKind → List SingleMessage → Type 0 = λ k ms. Writable store k p.span ms before in
+            subst (of_read room) (λ j. (sym fe j, sym re j))
+            (subst (λ (c : ℕ). Writable store kind p.span (held_first c) before) (sym counted_is) (writable_is p.span planned.goes))
+
+-- what is stored of rows: the kind of the front one, and the rings
+pub taken_rows : (r : ProducerState) (at : ℕ) (d : FrameRow) (kind : KindRow) (rings : RingsRow) (k : FrameKind) (n : Rings)
+    → decode_kind kind ≡ k → decode_rings rings ≡ n
+    → state_of (record r { core = record r.core { rings = rings }; outbound = set r.outbound at (record (get_or r.outbound at d) { kind = kind }) })
+    ≡ record (state_of r) {
+      core = core_rings n (state_of r).core;
+      outbound = set (state_of r).outbound at (record (get_or (state_of r).outbound at (decode_frame d)) { kind = k });
+    }
+taken_rows r at d kind rings k n ke ne =
+    let row =
+    stored_row decode_frame r.outbound at (record (get_or r.outbound at d) { kind = kind })
+    (record (get_or (map decode_frame r.outbound) at (decode_frame d)) { kind = k })
+    (λ j. record (sym (get_or-map decode_frame r.outbound at d) j) { kind = ke j }) in
+    λ j. record (state_of r) { core = core_rings (ne j) (state_of r).core; outbound = row j }

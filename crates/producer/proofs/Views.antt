@@ -16,9 +16,9 @@ use Rattle.queue.specs.Send.{accept}
 use Rattle.queue.specs.Sizes.{outbound_size, held_size, pending_size}
 use Rattle.rules.specs.Rings.{place_behind, longer_behind}
 use Rattle.plans.specs.Delta.{pushed, accepted, held}
-use Rattle.producer.specs.View.{view, entry_of, entries}
+use Rattle.producer.specs.View.{queue_of, entry_of, entries}
 use Rattle.producer.specs.Apply.{store_core, store_frame, store_entry, store_held}
-use Rattle.producer.specs.declared.state.ProducerState.{ProducerState}
+use Rattle.producer.specs.State.{State}
 use Rattle.producer.proofs.Entries.{entries_put, length_entries}
 use Rattle.producer.proofs.Stores.{stored_at}
 use Rattle.producer.proofs.Full.{Full}
@@ -36,7 +36,7 @@ p256 = lit< tt
 abbrev pub holding : SingleMessage → Outgoing → Outgoing
 holding m o = record { frames = o.frames; waiting = o.waiting; held = onto held_size o.held m; batch = o.batch }
 
-module _ (s : ProducerState) (f : Full s) where
+module _ (s : State) (f : Full s) where
   all : List OpSend
   all = entries s.pending_ids s.pending_marks s.pending
 
@@ -45,8 +45,8 @@ module _ (s : ProducerState) (f : Full s) where
   all_length = length_entries pending_size s.pending_ids s.pending_marks s.pending f.ids f.marks f.pending
 
   pub pushes : (r : FrameRecord) (n : ℕ)
-      → view (store_frame (pushed r n s.core).put (store_core (pushed r n s.core).core s)) ≡ with_out (push r n (view s).out) (view s)
-  unfolding view
+      → queue_of (store_frame (pushed r n s.core).put (store_core (pushed r n s.core).core s)) ≡ with_out (push r n (queue_of s).out) (queue_of s)
+  unfolding queue_of
   pushes r n =
       let c = s.core in
       let k = c.rings in
@@ -70,8 +70,8 @@ module _ (s : ProducerState) (f : Full s) where
       }
 
   pub holds : (m : SingleMessage)
-      → view (store_held (held m s.core).put (store_core (held m s.core).core s)) ≡ with_out (holding m (view s).out) (view s)
-  unfolding view
+      → queue_of (store_held (held m s.core).put (store_core (held m s.core).core s)) ≡ with_out (holding m (queue_of s).out) (queue_of s)
+  unfolding queue_of
   holds m =
       let c = s.core in
       let k = c.rings in
@@ -95,9 +95,9 @@ module _ (s : ProducerState) (f : Full s) where
       }
 
   pub accepts : (p : Publish)
-      → view (store_entry (accepted p s.core).put (store_core (accepted p s.core).core s))
-      ≡ accept (entry_of s.core.ids.next_sequence_id 1 p) (view s)
-  unfolding view all
+      → queue_of (store_entry (accepted p s.core).put (store_core (accepted p s.core).core s))
+      ≡ accept (entry_of s.core.ids.next_sequence_id 1 p) (queue_of s)
+  unfolding queue_of all
   accepts p =
       let c = s.core in
       let k = c.rings in
@@ -123,10 +123,10 @@ module _ (s : ProducerState) (f : Full s) where
       }
 
   -- how many the definition sees
-  pub held_length : length (view s).out.held ≡ min s.core.rings.held.len held_size
-  unfolding view
+  pub held_length : length (queue_of s).out.held ≡ min s.core.rings.held.len held_size
+  unfolding queue_of
   held_length = length_ring held_size p512 s.held f.held s.core.rings.held.head s.core.rings.held.len
 
-  pub pending_length : length (view s).pending ≡ min s.core.rings.pending.len pending_size
-  unfolding view all
+  pub pending_length : length (queue_of s).pending ≡ min s.core.rings.pending.len pending_size
+  unfolding queue_of all
   pending_length = length_ring pending_size p256 all all_length s.core.rings.pending.head s.core.rings.pending.len

@@ -1,10 +1,12 @@
 pub mod Apply
 pub mod Meets
+pub mod Push
 pub mod Replay
 pub mod Runs
 pub mod Send
 pub mod Settings
 pub mod Settle
+pub mod State
 pub mod Tables
 pub mod Take
 pub mod View

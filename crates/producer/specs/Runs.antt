@@ -16,7 +16,7 @@ use Rattle.producer.specs.Meets.{Meets}
 use Rattle.producer.specs.View.{view}
 use Rattle.producer.specs.declared.state.ProducerState.{ProducerState}
 
--- calls one after the other, each with the state that the last one returned: from a state to a state, with the frames that the takes
+-- calls one after the other, each on the state that the last one left, by value, by reference or exported: from a state to a state, with the frames that the takes
 -- answered and the messages of the sends that were not refused
 pub data Run (store : List ℕ) : ProducerState → List Call → ProducerState → List Frame → List Message → Type 0 where
   end : {s : ProducerState} → Run store s [] s [] []
@@ -25,7 +25,7 @@ pub data Run (store : List ℕ) : ProducerState → List Call → ProducerState 
       → Run store t cs u fs ms
       → Run store s (c ∷ cs) u (frame_of c answer ++ fs) (accepted_by store c answer ++ ms)
 
--- a run from a new producer, by what `ProducerState::new` promises
+-- a run from a new producer, by what `ProducerState::new` and `reset` promise, and `tevrulig_new` of `tevrulig`
 pub record RunOfNew (store : List ℕ) (handle : ProducerHandle) (cs : List Call) (u : ProducerState) (frames : List Frame) (messages : List Message) : Type 0 where
   pub first : ProducerState
   pub new : view first ≡ new_queue handle

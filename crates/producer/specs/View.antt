@@ -6,6 +6,7 @@ use Rattle.queue.specs.Queue.{Queue}
 use Rattle.types.specs.declared.entry.OpSend.{OpSend}
 use Rattle.types.specs.declared.entry.Publish.{Publish}
 use Rattle.types.specs.declared.types.SequenceId.{SequenceId}
+use Rattle.producer.specs.State.{State, state_of}
 use Rattle.producer.specs.declared.state.ProducerState.{ProducerState}
 
 -- a pending entry is put together from its id, its mark and what was sent
@@ -19,11 +20,11 @@ entries (i ∷ is) (m ∷ ms) [] = []
 entries (i ∷ is) (m ∷ ms) (p ∷ ps) = entry_of i m p ∷ entries is ms ps
 
 -- the slots of the pending entries
-abbrev pub slots_of : ProducerState → List OpSend
+abbrev pub slots_of : State → List OpSend
 slots_of s = entries s.pending_ids s.pending_marks s.pending
 
-unfoldable pub view : ProducerState → Queue
-view s =
+unfoldable pub queue_of : State → Queue
+queue_of s =
     let c = s.core in
     let r = c.rings in
     record {
@@ -39,3 +40,6 @@ view s =
         batch = c.batch;
       };
     }
+
+abbrev pub view : ProducerState → Queue
+view s = queue_of (state_of s)

@@ -5,6 +5,7 @@ pub mod answer;
 pub mod apply;
 pub mod drain;
 pub mod pending;
+pub mod push;
 pub mod query;
 pub mod replay;
 pub mod send;

@@ -1,47 +1,37 @@
 // The pending entries.
 ghost use Rattle.std.specs.Prelude.{◌≡◌, length, slice_index_or};
-ghost use Rattle.tables.specs.Picked.{Lists};
-ghost use Rattle.producer.specs.View.{view, entry_of};
+ghost use Rattle.rows.specs.Entry.{decode_entry};
+ghost use Rattle.tables.specs.Picked.{ListsRows};
+ghost use Rattle.producer.specs.View.{view};
 
 use crate::state::ProducerState;
-use rules::blank::no_entry;
+use rows::entry::OpSendRow;
 use rules::rings::Rings;
 use tables::list::Listed;
-use types::entry::{OpSend, Publish};
-use types::types::SequenceId;
-
-fn op_of(id: SequenceId, mark: u8, publish: Publish) -> OpSend
-    ensures { result ≡ entry_of id mark publish }
-{
-    OpSend {
-        sequence_id: id,
-        answerable: mark != 0,
-        publish,
-    }
-}
 
 impl ProducerState {
     // The entry at a place from the oldest one. The marks are counted as in `place_of`.
-    pub(crate) fn op_at(&self, place: usize) -> OpSend
+    pub(crate) fn row_at(&self, place: usize) -> OpSendRow
         ensures marks { length self.now.pending_marks ≡ Rings.PENDING }
-        ensures entry { slice_index_or (view self.now).pending place result ≡ result }
+        ensures entry { slice_index_or (view self.now).pending place (decode_entry result) ≡ decode_entry result }
     {
-        let at = self.core.rings.pending.slot(place);
-        op_of(
-            self.pending_ids[at],
-            self.pending_marks[at],
-            self.pending[at],
-        )
+        let at = self.core.rings.decode().pending.slot(place);
+        let publish = self.pending[at];
+        OpSendRow {
+            sequence_id: self.pending_ids[at],
+            answerable: self.pending_marks[at],
+            publish,
+        }
     }
 
     // The oldest first.
-    pub(crate) fn entries(&self) -> Listed<OpSend, { Rings::PENDING }>
-        ensures { Lists (view self.now).pending result }
+    pub(crate) fn entries(&self) -> Listed<OpSendRow, { Rings::PENDING }>
+        ensures { ListsRows (view self.now).pending result }
     {
-        let len = self.core.rings.pending.count();
-        let mut items = [no_entry(); Rings::PENDING];
+        let len = self.core.rings.decode().pending.count();
+        let mut items = [OpSendRow::blank(); Rings::PENDING];
         for i in 0..len {
-            items[i] = self.op_at(i);
+            items[i] = self.row_at(i);
         }
         Listed { items, len }
     }

@@ -13,11 +13,47 @@ impl ProducerState {
     pub fn send_deadline(&self) -> Option<u64>
         ensures { Meets [] (query send_deadline) self.now self.now (done result) }
     {
-        let at = self.core.rings.pending.slot(0);
-        self.core.next_send_deadline(self.pending[at].enqueued_at)
+        let at = self.core.rings.decode().pending.slot(0);
+        let front = self.pending[at].decode();
+        self.core.decode().next_send_deadline(front.enqueued_at)
+    }
+
+    pub fn batch_deadline(&self) -> Option<u64>
+        ensures { Meets [] (query batch_deadline) self.now self.now (done result) }
+    {
+        self.core.decode().next_batch_deadline()
+    }
+
+    pub fn is_batch_due(&self, now: u64) -> bool
+        ensures { Meets [] (query (batch_elapsed now)) self.now self.now (done result) }
+    {
+        elapsed(now, self.core.decode().next_batch_deadline())
+    }
+
+    // Whether a message of this payload size and count may join the open batch, if it is batchable.
+    pub fn may_add(&self, payload_size: usize, num_messages: i32) -> bool
+        ensures { Meets [] (query (can_add payload_size num_messages)) self.now self.now (done result) }
+    {
+        self.core
+            .decode()
+            .can_add_to_batch(payload_size, num_messages)
+    }
+
+    // The waiting frames, chunks counted singly.
+    pub fn waiting_count(&self) -> usize
+        ensures { Meets [] (query waiting_count) self.now self.now (done result) }
+    {
+        outbound_len_of(self.core.rings.decode())
+    }
+
+    pub fn statistics(&self) -> ProducerStats
+        ensures { Meets [] (query statistics) self.now self.now (done result) }
+    {
+        stats_of(self.core.counters, self.core.rings.decode().pending)
     }
 
     // The same for a state by value.
+
     pub fn next_send_deadline(self) -> Option<u64>
         ensures { Meets [] (query send_deadline) self self (done result) }
     {
@@ -27,32 +63,30 @@ impl ProducerState {
     pub fn next_batch_deadline(self) -> Option<u64>
         ensures { Meets [] (query batch_deadline) self self (done result) }
     {
-        self.core.next_batch_deadline()
+        self.batch_deadline()
     }
 
     pub fn batch_deadline_elapsed(self, now: u64) -> bool
         ensures { Meets [] (query (batch_elapsed now)) self self (done result) }
     {
-        elapsed(now, self.core.next_batch_deadline())
+        self.is_batch_due(now)
     }
 
-    // Whether a message of this payload size and count may join the open batch, if it is batchable.
     pub fn can_add_to_batch(self, payload_size: usize, num_messages: i32) -> bool
         ensures { Meets [] (query (can_add payload_size num_messages)) self self (done result) }
     {
-        self.core.can_add_to_batch(payload_size, num_messages)
+        self.may_add(payload_size, num_messages)
     }
 
-    // The waiting frames, chunks counted singly.
     pub fn outbound_len(self) -> usize
         ensures { Meets [] (query waiting_count) self self (done result) }
     {
-        outbound_len_of(self.core.rings)
+        self.waiting_count()
     }
 
     pub fn stats(self) -> ProducerStats
         ensures { Meets [] (query statistics) self self (done result) }
     {
-        stats_of(self.core.counters, self.core.rings.pending)
+        self.statistics()
     }
 }

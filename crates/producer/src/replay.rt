@@ -8,43 +8,47 @@ ghost use Rattle.queue.specs.Tables.{fronted, mark};
 ghost use Rattle.queue.specs.Told.{Kept, told};
 ghost use Rattle.producer.specs.Meets.{Meets};
 ghost use Rattle.producer.specs.Replay.{frame_id};
+ghost use Rattle.rows.specs.Entry.{decode_entry};
 ghost use Rattle.tables.specs.Picked.{Lists};
 ghost use Rattle.producer.specs.View.{view};
 
 use crate::answer::Answered;
 use crate::state::ProducerState;
+use rows::entry::OpSendRow;
 use rules::rings::Rings;
 use tables::entries::{all_well_formed, frame_again, frames_of};
 use tables::list::Listed;
 use tables::pick::picked;
 use tables::pushes::frames_for;
 use tables::unborne::Unborne;
-use types::entry::OpSend;
 use types::error::ProducerError;
 use types::types::SequenceId;
 
 impl ProducerState {
     // The frames of the entries in front of those that wait, in order: the last entry's go first.
-    fn front_frames(&mut self, ops: &[OpSend])
+    fn front_frames(&mut self, ops: &[OpSendRow])
         requires { self.old.core.rings.waiting < 2 ^ 64 }
-        ensures { view self.new ≡ with_out (fronted ops.now (view self.old).out) (view self.old) }
+        ensures { view self.new ≡ with_out (fronted (map decode_entry ops.now) (view self.old).out) (view self.old) }
     {
-        for op in ops.iter().rev() {
+        for row in ops.iter().rev() {
+            let op = row.decode();
             let p = self
                 .core
-                .front(frame_again(*op), frames_of(op.publish.replay));
-            self.core = p.core;
+                .decode()
+                .front(frame_again(op), frames_of(op.publish.replay));
+            self.store_core(p.core);
             self.store_frame(p.put);
         }
     }
 
     // The entries in front of those that are pending, in order.
-    fn front_entries(&mut self, ops: &[OpSend])
-        ensures { view self.new ≡ with_pending (front_all pending_size (map mark ops.now) (view self.old).pending) (view self.old) }
+    fn front_entries(&mut self, ops: &[OpSendRow])
+        ensures { view self.new ≡ with_pending (front_all pending_size (map mark (map decode_entry ops.now)) (view self.old).pending) (view self.old) }
     {
-        for op in ops.iter().rev() {
-            let p = self.core.front_entry(*op);
-            self.core = p.core;
+        for row in ops.iter().rev() {
+            let op = row.decode();
+            let p = self.core.decode().front_entry(op);
+            self.store_core(p.core);
             self.store_entry(p.put);
         }
     }
@@ -60,7 +64,7 @@ impl ProducerState {
     fn waiting_ids(&self) -> Listed<SequenceId, { Rings::OUTBOUND }>
         ensures { Lists (map frame_id (view self.now).out.frames) result }
     {
-        let ring = self.core.rings.outbound;
+        let ring = self.core.rings.decode().outbound;
         let len = ring.count();
         let mut items = [SequenceId(0); Rings::OUTBOUND];
         for i in 0..len {
@@ -70,7 +74,7 @@ impl ProducerState {
     }
 
     #[inline(never)]
-    fn resend(&mut self) -> Result<usize, ProducerError>
+    pub fn resend(&mut self) -> Result<usize, ProducerError>
         ensures meets { Meets [] resend self.old self.new (told result) }
         ensures kept { Kept (told result) self.old self.new }
     {
@@ -82,7 +86,10 @@ impl ProducerState {
                 ids: ids.as_slice(),
             },
         );
-        let count = self.core.replay_count(frames_for(left.as_slice()))?;
+        let count = self
+            .core
+            .decode()
+            .replay_count(frames_for(left.as_slice()))?;
         self.front_frames(left.as_slice());
         Ok(count)
     }
@@ -99,11 +106,12 @@ impl ProducerState {
     }
 
     #[inline(never)]
-    fn replay(&mut self, table: &[OpSend]) -> Result<(), ProducerError>
-        ensures meets { Meets [] (replay table.now) self.old self.new (told result) }
+    pub fn replay(&mut self, table: &[OpSendRow]) -> Result<(), ProducerError>
+        ensures meets { Meets [] (replay (map decode_entry table.now)) self.old self.new (told result) }
         ensures kept { Kept (told result) self.old self.new }
     {
         self.core
+            .decode()
             .replay_answer(all_well_formed(table), table.len(), frames_for(table))?;
         self.mark_all();
         self.front_entries(table);
@@ -112,8 +120,8 @@ impl ProducerState {
     }
 
     // Puts the entries of a table and their frames at the front.
-    pub fn replay_snapshots(mut self, table: &[OpSend]) -> Answered<()>
-        ensures meets { Meets [] (replay table.now) self result.state (told result.answer) }
+    pub fn replay_snapshots(mut self, table: &[OpSendRow]) -> Answered<()>
+        ensures meets { Meets [] (replay (map decode_entry table.now)) self result.state (told result.answer) }
         ensures kept { Kept (told result.answer) self result.state }
     {
         Answered {

@@ -3,29 +3,46 @@ ghost use Rattle.std.specs.Prelude.{◌≡◌, ◌<◌, [], min, map, length};
 ghost use Rattle.upkeep.specs.Pending.{searched, located};
 ghost use Rattle.laws.specs.Lists.{without};
 ghost use Rattle.queue.specs.Queue.{with_pending};
+ghost use Rattle.rules.specs.Rings.{without_front, without_last};
 ghost use Rattle.queue.specs.Run as run;
 ghost use Rattle.queue.specs.Run.{send_error};
 ghost use Rattle.queue.specs.Told.{told, Kept};
 ghost use Rattle.producer.specs.Meets.{Meets};
-ghost use Rattle.producer.specs.Settle.{GapClosed, Settles, key_of, unmarked};
+ghost use Rattle.producer.specs.Settle.{GapClosed, Settles, decode_entries, decode_settled, key_of, unmarked};
+ghost use Rattle.producer.specs.State.{state_of};
 ghost use Rattle.producer.specs.View.{view};
 
 use crate::answer::Answered;
 use crate::state::ProducerState;
+use rows::entry::OpSendRow;
+use rows::rings::RingRow;
 use rules::rings::Rings;
 use types::command::{CommandSendError, CommandSendReceipt};
 use types::entry::OpSend;
 use types::error::ProducerError;
 use types::types::{MessageId, SequenceId};
-use upkeep::pending::{Index, unmark};
+use upkeep::pending::{Index, bearing, unmark};
+use upkeep::stats::published_ids;
+
+// The entry of an answer as the record that its row stands for.
+pub fn decode_settled<T: Copy>(
+    answer: Result<(OpSendRow, T), ProducerError>,
+) -> Result<(OpSend, T), ProducerError>
+    ensures { result ≡ decode_settled answer }
+{
+    match answer {
+        Ok((row, value)) => Ok((row.decode(), value)),
+        Err(e) => Err(e),
+    }
+}
 
 impl ProducerState {
     // The entries behind a place move up by one.
-    fn close_gap(&mut self, place: usize)
+    fn move_up(&mut self, place: usize)
         requires { place < min self.old.core.rings.pending.len Rings.PENDING }
-        ensures { GapClosed place self.old self.new }
+        ensures { GapClosed place (without_last Rings.PENDING (state_of self.old).core.rings.pending) (state_of self.old) (state_of self.new) }
     {
-        let ring = self.core.rings.pending;
+        let ring = self.core.rings.decode().pending;
         for i in place..ring.count() - 1 {
             let from = ring.slot(i + 1);
             let to = ring.slot(i);
@@ -35,16 +52,35 @@ impl ProducerState {
         }
     }
 
-    // The entry at a place leaves, if there is one.
+    // Those in front of it move back by one.
+    fn move_back(&mut self, place: usize)
+        requires { place < min self.old.core.rings.pending.len Rings.PENDING }
+        ensures { GapClosed place (without_front Rings.PENDING 1 (state_of self.old).core.rings.pending) (state_of self.old) (state_of self.new) }
+    {
+        let ring = self.core.rings.decode().pending;
+        for i in 0..place {
+            let earlier = ring.slot(place - i - 1);
+            let later = ring.slot(place - i);
+            self.pending[later] = self.pending[earlier];
+            self.pending_ids[later] = self.pending_ids[earlier];
+            self.pending_marks[later] = self.pending_marks[earlier];
+        }
+    }
+
+    // The entry at a place leaves, if there is one. The shorter side moves.
     pub fn remove(&mut self, place: usize)
         ensures { view self.new ≡ with_pending (without (view self.old).pending place) (view self.old) }
     {
-        if place < self.core.rings.pending.count() {
-            let core = self.core.without_entry(place);
-            if 0 < place {
-                self.close_gap(place);
-            }
-            self.core = core;
+        let ring = self.core.rings.decode().pending;
+        if place < ring.count() {
+            let shorter = if place < ring.count() - place {
+                self.move_back(place);
+                ring.without_front(1)
+            } else {
+                self.move_up(place);
+                ring.without_last()
+            };
+            self.core.rings.pending = RingRow::encode(shorter);
         }
     }
 
@@ -52,52 +88,58 @@ impl ProducerState {
     // have the state by `&mut`, whom the check tells the lengths of four arrays.
     pub fn place_of(&self, id: SequenceId) -> Option<usize>
         ensures marks { length self.now.pending_marks ≡ Rings.PENDING }
-        ensures place { result ≡ located id.0 (searched self.now.pending_ids self.now.pending_marks self.now.core.rings.pending) }
+        ensures place { result ≡ located id.0 (searched self.now.pending_ids self.now.pending_marks (state_of self.now).core.rings.pending) }
     {
         let index = Index {
             ids: &self.pending_ids,
             marks: &self.pending_marks,
-            ring: self.core.rings.pending,
+            ring: self.core.rings.decode().pending,
         };
         index.locate(id)
     }
 
     // The id leaves the index.
     fn unmark_all(&mut self, id: SequenceId)
-        ensures { self.new ≡ unmarked id.0 self.old }
+        ensures { state_of self.new ≡ unmarked id.0 (state_of self.old) }
     {
         unmark(&mut self.pending_marks, &self.pending_ids, id);
     }
 
     // The first entry that bears an answerable id leaves, and the id the index.
-    fn settle(&mut self, id: SequenceId) -> Result<OpSend, ProducerError>
-        ensures { Settles id.0 self.old result self.new }
+    fn settle(&mut self, id: SequenceId) -> Result<OpSendRow, ProducerError>
+        ensures { Settles id.0 self.old (decode_entries result) self.new }
     {
         let place = self.place_of(id).ok_or(ProducerError::NotAnswerable)?;
-        let op = self.op_at(place);
-        self.unmark_all(id);
+        let row = self.row_at(place);
+        // Where no other slot bears the id, the entry that leaves takes its mark along.
+        if 1 < bearing(&self.pending_ids, id) {
+            self.unmark_all(id);
+        }
         self.remove(place);
-        Ok(op)
+        Ok(row)
     }
 
     #[inline(never)]
-    fn receive(&mut self, receipt: CommandSendReceipt) -> Result<(OpSend, MessageId), ProducerError>
-        ensures meets { Meets [] (run.receipt receipt.sequence_id.0 receipt.message_id) self.old self.new (told result) }
-        ensures kept { Kept (told result) self.old self.new }
+    pub fn receive(
+        &mut self,
+        receipt: CommandSendReceipt,
+    ) -> Result<(OpSendRow, MessageId), ProducerError>
+        ensures meets { Meets [] (run.receipt receipt.sequence_id.0 receipt.message_id) self.old self.new (told (decode_settled result)) }
+        ensures kept { Kept (told (decode_settled result)) self.old self.new }
     {
         let id = receipt.sequence_id;
-        let op = self.settle(id)?;
-        self.core = self.core.published(id);
-        Ok((op, MessageId::of_receipt(receipt.message_id)))
+        let row = self.settle(id)?;
+        self.core.ids = published_ids(self.core.ids, id);
+        Ok((row, MessageId::of_receipt(receipt.message_id)))
     }
 
     #[inline(never)]
-    fn fail(&mut self, err: CommandSendError) -> Result<(OpSend, i32), ProducerError>
-        ensures meets { Meets [] (send_error err.sequence_id.0 err.error) self.old self.new (told result) }
-        ensures kept { Kept (told result) self.old self.new }
+    pub fn fail(&mut self, err: CommandSendError) -> Result<(OpSendRow, i32), ProducerError>
+        ensures meets { Meets [] (send_error err.sequence_id.0 err.error) self.old self.new (told (decode_settled result)) }
+        ensures kept { Kept (told (decode_settled result)) self.old self.new }
     {
-        let op = self.settle(err.sequence_id)?;
-        Ok((op, err.error))
+        let row = self.settle(err.sequence_id)?;
+        Ok((row, err.error))
     }
 
     // The entry that left, and the id that the message has now.
@@ -106,7 +148,7 @@ impl ProducerState {
         ensures kept { Kept (told result.answer) self result.state }
     {
         Answered {
-            answer: self.receive(receipt),
+            answer: decode_settled(self.receive(receipt)),
             state: self,
         }
     }
@@ -117,7 +159,7 @@ impl ProducerState {
         ensures kept { Kept (told result.answer) self result.state }
     {
         Answered {
-            answer: self.fail(err),
+            answer: decode_settled(self.fail(err)),
             state: self,
         }
     }

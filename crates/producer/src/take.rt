@@ -11,6 +11,9 @@ use crate::answer::Answered;
 use crate::state::ProducerState;
 use frames::held::Held;
 use frames::span::{held_count, is_batch, payload_span};
+use plans::take::plan_take;
+use rows::frame::KindRow;
+use rows::rings::RingsRow;
 use rules::rings::Ring;
 use types::error::ProducerError;
 use types::outbound::OutboundFrame;
@@ -19,19 +22,15 @@ use wire::copy::copy;
 impl ProducerState {
     // Hands out the front frame, with its payload at the start of `buffer`, and moves the state in place.
     #[inline(never)]
-    pub fn take_front(
-        &mut self,
-        store: &[u8],
-        buffer: &mut [u8],
-    ) -> Result<OutboundFrame, ProducerError>
+    pub fn take(&mut self, store: &[u8], buffer: &mut [u8]) -> Result<OutboundFrame, ProducerError>
         ensures meets { Meets store.now (take (length buffer.old)) self.old self.new (told_frame store.now buffer.new result) }
         ensures buffer_after { buffer.new ≡ written (told_frame store.now buffer.new result) buffer.old }
         ensures own { OwnParts store.now (view self.old) (view self.old).out.frames result }
         ensures kept { Kept (told_frame store.now buffer.new result) self.old self.new }
     {
-        let rings = self.core.rings;
+        let rings = self.core.rings.decode();
         let at = rings.outbound.slot(0);
-        let front = self.outbound[at];
+        let front = self.outbound[at].decode();
         let count = held_count(front.kind, rings.held);
         let held = Held {
             messages: &self.held,
@@ -41,7 +40,7 @@ impl ProducerState {
             },
         };
         let span = payload_span(front, held, store.len());
-        let plan = self.core.plan_take(front, span, count, buffer.len())?;
+        let plan = plan_take(self.core.handle, rings, front, span, count, buffer.len())?;
         if is_batch(front.kind) {
             held.put(buffer, store);
         } else {
@@ -50,8 +49,8 @@ impl ProducerState {
                 &store[plan.span.start..plan.span.start + plan.span.len],
             );
         }
-        self.outbound[at] = plan.slot;
-        self.core = plan.core;
+        self.outbound[at].kind = KindRow::encode(plan.kind);
+        self.core.rings = RingsRow::encode(plan.rings);
         Ok(plan.frame)
     }
 
@@ -63,7 +62,7 @@ impl ProducerState {
         ensures kept { Kept (told_frame store.now buffer.new result.answer) self result.state }
     {
         Answered {
-            answer: self.take_front(store, buffer),
+            answer: self.take(store, buffer),
             state: self,
         }
     }

@@ -19,3 +19,4 @@ pub mod Emptied
 pub mod Restore
 pub mod Twice
 pub mod Rows
+pub mod Values

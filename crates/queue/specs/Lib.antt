@@ -20,3 +20,4 @@ pub mod Restore
 pub mod Document
 pub mod Told
 pub mod Rows
+pub mod Values

@@ -81,5 +81,5 @@ drain_timed_out_sends now room q =
     hand_out room gone q (with_pending (unmark_all gone (drop n q.pending)) q)
 
 -- the entries of a table after a call: those written, and beyond their count as they were
-abbrev pub table_after : List OpSend → List OpSend → List OpSend
+abbrev pub table_after : {A : Type 0} → List A → List A → List A
 table_after entries table = entries ++ drop (length entries) table

@@ -31,7 +31,6 @@ without_front n k r =
     let len = min r.len n in
     record { head = slot_of n r.head (min k len); len = len - min k len }
 
--- with the record at a place gone: the ring begins one on, if it was the first; else those behind it have moved up
-abbrev pub without_place : (n : ℕ) → ℕ → Ring n → Ring n
-without_place n place r =
-    pick (eqb place 0) (without_front n 1 r) (record { head = r.head; len = min r.len n - 1 })
+-- with the last record gone
+abbrev pub without_last : (n : ℕ) → Ring n → Ring n
+without_last n r = record { head = r.head; len = min r.len n - 1 }

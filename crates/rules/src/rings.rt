@@ -1,6 +1,6 @@
 // The rings of the state: where they begin, how long they are, and the places in them.
 ghost use Rattle.std.specs.Prelude.{◌≡◌, ◌+◌, min, ltb};
-ghost use Rattle.rules.specs.Rings.{slot_of, place_behind, place_before, longer_behind, longer_before, without_front, without_place};
+ghost use Rattle.rules.specs.Rings.{slot_of, place_behind, place_before, longer_behind, longer_before, without_front, without_last};
 
 // A ring of N slots. Any numbers will do: the head is read as `head % N`, the length as `min(len, N)`.
 #[derive(Clone, Copy, PartialEq, Eq)]
@@ -89,17 +89,13 @@ impl<const N: usize> Ring<N> {
         }
     }
 
-    // With the record at a place gone. The ring then begins one on, if it was the first; else those behind it have moved up.
-    pub fn without(self, place: usize) -> Self
-        ensures { result ≡ without_place N place self.entry }
+    // With the last record gone.
+    pub fn without_last(self) -> Self
+        ensures { result ≡ without_last N self.entry }
     {
-        if place == 0 {
-            self.without_front(1)
-        } else {
-            Ring {
-                len: self.count().saturating_sub(1),
-                ..self
-            }
+        Ring {
+            len: self.count().saturating_sub(1),
+            ..self
         }
     }
 }

@@ -6,6 +6,7 @@ ghost use Rattle.script.specs.Output.{Writes};
 use crate::operation::Call;
 use crate::write::{Output, Put, Stored, low_half, put_txn_halves};
 use plans::state::Core;
+use rows::entry::OpSendRow;
 use types::answer::SendDecision;
 use types::batch::BatchContainer;
 use types::entry::{OpSend, Publish, Replay};
@@ -166,10 +167,10 @@ impl Put for OpSend {
 }
 
 // All of some entries, without their count.
-impl Put for &[OpSend] {
+impl Put for &[OpSendRow] {
     fn put(self, out: &mut Output) {
-        for op in self {
-            out.put(*op);
+        for row in self {
+            out.put(row.decode());
         }
     }
 }

@@ -2,6 +2,8 @@
 use Rattle.std.specs.Prelude.{ℕ, Bool, List, [], ◌∷◌, length, nat_lt, Err, None, Ok, Option, Result, Some}
 use Rattle.laws.specs.Choice.{pick}
 use Rattle.types.specs.declared.entry.OpSend.{OpSend}
+use Rattle.rows.specs.Entry.{decode_entry}
+use Rattle.rows.specs.declared.entry.OpSendRow.{OpSendRow}
 use Rattle.types.specs.declared.types.SequenceId.{SequenceId}
 use Rattle.queue.specs.Ids.{send_deadline, elapsed}
 use Rattle.queue.specs.Settle.{due_count}
@@ -11,6 +13,10 @@ use Rattle.types.specs.declared.error.ProducerError.TheVariants.{TooShort}
 
 abbrev pub is_due : ℕ → Option ℕ → OpSend → Bool
 is_due time timeout op = elapsed time (send_deadline timeout op)
+
+-- the same of an entry as a row
+abbrev pub due_row : ℕ → Option ℕ → OpSendRow → Bool
+due_row time timeout row = is_due time timeout (decode_entry row)
 
 -- how many entries a drain hands out: those that are due at a time, or all
 abbrev pub gone_count : Option ℕ → Option ℕ → List OpSend → ℕ

@@ -1,8 +1,10 @@
 -- The entries of one kind.
-use Rattle.std.specs.Prelude.{◌≡◌, ℕ, Bool, not, List, length, take}
+use Rattle.std.specs.Prelude.{◌≡◌, ℕ, Bool, not, List, length, map, take}
 use Rattle.laws.specs.Choice.{pick}
 use Rattle.types.specs.declared.entry.OpSend.{OpSend}
 use Rattle.queue.specs.Tables.{is_batched, batched_of, framed_of}
+use Rattle.rows.specs.Entry.{decode_entry}
+use Rattle.rows.specs.declared.entry.OpSendRow.{OpSendRow}
 use Rattle.tables.specs.declared.list.Listed.{Listed}
 
 abbrev pub same_as : Bool → Bool → Bool
@@ -19,4 +21,9 @@ is_kind batched op = same_as batched (is_batched op.publish.replay)
 -- the array starts with a list, and tells how long it is
 pub record Lists {A : Type 0} {n : ℕ} (l : List A) (r : Listed A n) : Type 0 where
   pub same : take r.len r.items ≡ l
+  pub many : r.len ≡ length l
+
+-- the same of entries as rows
+pub record ListsRows {n : ℕ} (l : List OpSend) (r : Listed OpSendRow n) : Type 0 where
+  pub same : map decode_entry (take r.len r.items) ≡ l
   pub many : r.len ≡ length l

@@ -2,10 +2,10 @@
 ghost use Rattle.std.specs.Prelude.{◌≡◌, length, take};
 ghost use Rattle.queue.specs.Settle.{table_after};
 
-use types::entry::OpSend;
+use rows::entry::OpSendRow;
 
 // They go to the start of the table, as many as it has places. What it has beyond them stays.
-pub fn copy_entries(table: &mut [OpSend], entries: &[OpSend])
+pub fn copy_entries(table: &mut [OpSendRow], entries: &[OpSendRow])
     ensures { table.new ≡ table_after (take (length table.old) entries.now) table.old }
 {
     let n = entries.len().min(table.len());

@@ -1,9 +1,11 @@
 // What a replay makes of an entry, and which entries it takes (document 01, 'receipts, errors, snapshot, replay').
-ghost use Rattle.std.specs.Prelude.{◌≡◌};
+ghost use Rattle.std.specs.Prelude.{◌≡◌, map};
+ghost use Rattle.rows.specs.Entry.{decode_entry};
 ghost use Rattle.queue.specs.Tables.{is_batched, frames_of, kind_again, again, has_chunk_count, well_formed, all_well_formed};
 ghost use Rattle.tables.specs.Again.{unless_batched};
 
 use plans::send::frame_of;
+use rows::entry::OpSendRow;
 use rules::bounds::within_bounds;
 use rules::chunks::compute_total_chunks;
 use types::entry::{OpSend, Replay};
@@ -84,11 +86,11 @@ pub fn well_formed(op: OpSend) -> bool
 }
 
 // 12, of a whole table: also of one that 7 would refuse by its length.
-pub fn all_well_formed(table: &[OpSend]) -> bool
-    ensures { result ≡ all_well_formed table.now }
+pub fn all_well_formed(table: &[OpSendRow]) -> bool
+    ensures { result ≡ all_well_formed (map decode_entry table.now) }
 {
     for op in table {
-        if !well_formed(*op) {
+        if !well_formed(op.decode()) {
             return false;
         }
     }

@@ -1,21 +1,21 @@
 // Entries that are chosen from others.
-ghost use Rattle.std.specs.Prelude.{◌≡◌, Bool, take};
+ghost use Rattle.std.specs.Prelude.{◌≡◌, Bool, map, take};
 ghost use Rattle.types.specs.declared.entry.OpSend.{OpSend};
 ghost use Rattle.laws.specs.Lists.{keeping};
-ghost use Rattle.tables.specs.Picked.{Lists, is_kind};
+ghost use Rattle.rows.specs.Entry.{decode_entry};
+ghost use Rattle.tables.specs.Picked.{ListsRows, is_kind};
 
 use crate::entries::is_batched;
 use crate::list::Listed;
-use rules::blank::no_entry;
+use rows::entry::OpSendRow;
 use rules::rings::Rings;
-use types::entry::OpSend;
 
 // Which entries are chosen.
 pub trait Choice {
     ghost chosen: { Self → OpSend → Bool };
 
-    fn chooses(&self, op: OpSend) -> bool
-        ensures { result ≡ chosen self.now op };
+    fn chooses(&self, op: &OpSendRow) -> bool
+        ensures { result ≡ chosen self.now (decode_entry op.now) };
 }
 
 // The batched ones, or the others.
@@ -27,20 +27,24 @@ pub struct OfKind {
 impl Choice for OfKind {
     ghost chosen = { λ k op. is_kind k.batched op };
 
-    fn chooses(&self, op: OpSend) -> bool {
-        is_batched(op.publish.replay) == self.batched
+    fn chooses(&self, op: &OpSendRow) -> bool {
+        is_batched(op.publish.replay.decode()) == self.batched
     }
 }
 
 // Those of the first entries that are chosen, in order: of as many as can be pending.
-pub fn picked<C: Choice + Copy>(entries: &[OpSend], choice: C) -> Listed<OpSend, { Rings::PENDING }>
-    ensures { Lists (keeping (C.chosen choice) (take Rings.PENDING entries.now)) result }
+pub fn picked<C: Choice + Copy>(
+    entries: &[OpSendRow],
+    choice: C,
+) -> Listed<OpSendRow, { Rings::PENDING }>
+    ensures { ListsRows (keeping (C.chosen choice) (take Rings.PENDING (map decode_entry entries.now))) result }
 {
-    let mut items = [no_entry(); Rings::PENDING];
+    let mut items = [OpSendRow::blank(); Rings::PENDING];
     let mut len = 0;
-    for op in &entries[..entries.len().min(Rings::PENDING)] {
-        if choice.chooses(*op) {
-            items[len] = *op;
+    let n = entries.len().min(Rings::PENDING);
+    for i in 0..n {
+        if choice.chooses(&entries[i]) {
+            items[len] = entries[i];
             len += 1;
         }
     }

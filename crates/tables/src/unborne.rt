@@ -3,7 +3,7 @@ ghost use Rattle.std.specs.Prelude.{◌≡◌};
 ghost use Rattle.tables.specs.Unborne.{borne_by, free};
 
 use crate::pick::Choice;
-use types::entry::OpSend;
+use rows::entry::OpSendRow;
 use types::types::SequenceId;
 
 fn is_borne(ids: &[SequenceId], id: SequenceId) -> bool
@@ -21,7 +21,7 @@ pub struct Unborne<'a> {
 impl Choice for Unborne<'_> {
     ghost chosen = { λ u op. free u.ids.now op };
 
-    fn chooses(&self, op: OpSend) -> bool {
+    fn chooses(&self, op: &OpSendRow) -> bool {
         !is_borne(self.ids, op.sequence_id)
     }
 }

@@ -2,7 +2,7 @@
 use crate::story;
 use crate::tour::Tour;
 use crate::words::{Answered, entries};
-use rules::blank::no_entry;
+use rows::entry::OpSendRow;
 use std::fmt::{self, Display, Formatter};
 use std::io;
 use tables::snapshot::Snapshot;
@@ -27,8 +27,8 @@ impl Display for Cut {
 impl<P: Print> Tour<'_, P> {
     // A snapshot, and the replay of all that it hands out to be sent again; a refused one ends it.
     fn reconnect(&mut self, what: &str) -> io::Result<()> {
-        let mut dropped = [no_entry(); TABLE];
-        let mut replay = [no_entry(); TABLE];
+        let mut dropped = [OpSendRow::blank(); TABLE];
+        let mut replay = [OpSendRow::blank(); TABLE];
         let cut = self.state.snapshot_pending_sends(&mut dropped, &mut replay);
         self.state = cut.state;
         let answer = match cut.answer {

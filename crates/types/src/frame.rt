@@ -9,6 +9,7 @@ use crate::types::SequenceId;
 
 // A producer's name: the first `len` of the bytes.
 #[derive(Clone, Copy, PartialEq, Eq)]
+#[repr(C)]
 pub struct ProducerName {
     pub bytes: [u8; ProducerName::MAX_LEN],
     pub len: usize,

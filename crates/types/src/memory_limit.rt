@@ -3,6 +3,7 @@ ghost use Rattle.std.specs.Prelude.{◌≡◌};
 ghost use Rattle.types.specs.MemoryLimit.{reservable};
 
 #[derive(Clone, Copy, PartialEq, Eq)]
+#[repr(C)]
 pub struct MemoryReservation {
     pub bytes: u64,
 }

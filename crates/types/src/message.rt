@@ -4,6 +4,7 @@ use crate::types::MessageId;
 
 // A start and a length in the store.
 #[derive(Clone, Copy, PartialEq, Eq)]
+#[repr(C)]
 pub struct Part {
     pub start: usize,
     pub len: usize,

@@ -2,6 +2,7 @@
 use crate::frame::ProducerName;
 
 #[derive(Clone, Copy, PartialEq, Eq)]
+#[repr(C)]
 pub struct Limits {
     // Payload length above which a message is chunked or refused.
     pub max_message_size: usize,

@@ -2,6 +2,7 @@
 use crate::types::SequenceId;
 
 #[derive(Clone, Copy, PartialEq, Eq)]
+#[repr(C)]
 pub struct SequenceIds {
     pub next_sequence_id: SequenceId,
     pub last_sequence_id_pushed: i64,
@@ -10,6 +11,7 @@ pub struct SequenceIds {
 
 // Each stops at 2^64 - 1.
 #[derive(Clone, Copy, PartialEq, Eq)]
+#[repr(C)]
 pub struct Counters {
     pub total_msgs_sent: u64,
     pub total_bytes_sent: u64,
@@ -18,6 +20,7 @@ pub struct Counters {
 }
 
 #[derive(Clone, Copy, PartialEq, Eq)]
+#[repr(C)]
 pub struct ProducerStats {
     pub counters: Counters,
     pub pending_queue_size: u64,

@@ -1,5 +1,6 @@
 // A transaction id.
 #[derive(Clone, Copy, PartialEq, Eq)]
+#[repr(C)]
 pub struct TxnId {
     // Most often the transaction coordinator.
     pub most_sig_bits: u64,

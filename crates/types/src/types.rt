@@ -4,14 +4,17 @@ ghost use Rattle.types.specs.Ids.{from_pb, of_receipt, with_all};
 
 // A producer id, which the connection gives out.
 #[derive(Clone, Copy, PartialEq, Eq)]
+#[repr(C)]
 pub struct ProducerHandle(pub u64);
 
 // The number of a publish, which its receipt names.
 #[derive(Clone, Copy, PartialEq, Eq)]
+#[repr(C)]
 pub struct SequenceId(pub u64);
 
 // Where a message is stored.
 #[derive(Clone, Copy, PartialEq, Eq)]
+#[repr(C)]
 pub struct MessageId {
     pub ledger_id: u64,
     pub entry_id: u64,

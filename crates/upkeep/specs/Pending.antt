@@ -1,5 +1,5 @@
 -- The ids and marks of the pending entries, and searches in them.
-use Rattle.std.specs.Prelude.{ℕ, Bool, true, false, not, ◌&&◌, ◌||◌, List, [], ◌∷◌, eqb, None, Option, Some}
+use Rattle.std.specs.Prelude.{ℕ, ◌+◌, Bool, true, false, not, ◌&&◌, ◌||◌, List, [], ◌∷◌, eqb, None, Option, Some}
 use Rattle.laws.specs.Choice.{pick}
 use Rattle.laws.specs.Lists.{first_at}
 use Rattle.laws.specs.Ring.{ring}
@@ -34,6 +34,11 @@ first_if None first = None
 -- the first key that bears the id, if one that does is marked
 abbrev pub located : ℕ → List Key → Option ℕ
 located id l = first_if (place_of (wanted id false) l) (place_of (wanted id true) l)
+
+-- how many of the ids are this one
+abbrev pub bearing : ℕ → List SequenceId → ℕ
+bearing id [] = 0
+bearing id (i ∷ is) = pick (eqb i.0 id) 1 0 + bearing id is
 
 abbrev pub cleared : ℕ → ℕ → ℕ → ℕ
 cleared id entry mark = pick (eqb entry id) 0 mark

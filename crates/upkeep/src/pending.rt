@@ -2,7 +2,7 @@
 // bears it is marked (not 0).
 ghost use Rattle.std.specs.Prelude.{◌≡◌, ◌&&◌, ◌||◌, not, eqb, length};
 ghost use Rattle.rules.specs.declared.rings.TheConstants.Rings.{PENDING};
-ghost use Rattle.upkeep.specs.Pending.{searched, wanted, place_of, located, cleared_all};
+ghost use Rattle.upkeep.specs.Pending.{searched, wanted, place_of, located, bearing, cleared_all};
 
 use rules::rings::{Ring, Rings};
 use types::types::SequenceId;
@@ -43,6 +43,19 @@ impl<'a> Index<'a> {
         self.find(id, false)?;
         self.find(id, true)
     }
+}
+
+// How many slots bear the id, in use or not.
+pub fn bearing(ids: &[SequenceId; Rings::PENDING], id: SequenceId) -> usize
+    ensures { result ≡ bearing id.0 ids.now }
+{
+    let mut count = 0;
+    for entry in ids {
+        if *entry == id {
+            count += 1;
+        }
+    }
+    count
 }
 
 // The id leaves the index: no entry keeps it.

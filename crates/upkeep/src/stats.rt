@@ -1,7 +1,8 @@
 // Counters and ids (document 01, 'ids and clocks').
 ghost use Rattle.std.specs.Prelude.{◌≡◌};
 ghost use Rattle.queue.specs.Queue.{new_ids};
-ghost use Rattle.queue.specs.Ids.{published};
+ghost use Rattle.queue.specs.Ids.{assigned, published};
+ghost use Rattle.queue.specs.Batch.{counted};
 ghost use Rattle.upkeep.specs.Stats.{initial_ids, stats_of};
 
 use rules::rings::{Ring, Rings};
@@ -48,6 +49,29 @@ pub fn initial_ids(mut ids: SequenceIds, next: SequenceId) -> SequenceIds
         ids.last_sequence_id_published = before;
     }
     ids
+}
+
+// The next id is taken.
+pub fn assigned_ids(ids: SequenceIds) -> SequenceIds
+    ensures { result ≡ assigned ids }
+{
+    let id = ids.next_sequence_id;
+    SequenceIds {
+        next_sequence_id: SequenceId(id.0.wrapping_add(1)),
+        last_sequence_id_pushed: signed_of(id.0),
+        ..ids
+    }
+}
+
+// Messages and bytes of frames that are pushed.
+pub fn counted(counters: Counters, messages: usize, bytes: usize) -> Counters
+    ensures { result ≡ counted messages bytes counters }
+{
+    Counters {
+        total_msgs_sent: counters.total_msgs_sent.saturating_add(messages as u64),
+        total_bytes_sent: counters.total_bytes_sent.saturating_add(bytes as u64),
+        ..counters
+    }
 }
 
 // A receipt's id becomes the published number.

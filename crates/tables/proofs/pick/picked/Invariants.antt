@@ -1,7 +1,8 @@
 -- `pick::picked`: those gathered and what the rest has to give are those of all entries.
 use Rattle.laws.proofs.Gathers.{Keeping}
-use Rattle.tables.proofs.pick.picked.Given as goal
 use Rattle.queue.specs.Sizes.{pending_size}
+use Rattle.rows.specs.Entry.{decode_entry}
+use Rattle.tables.proofs.pick.picked.Given as goal
 
-abbrev pub invariant-loop-op : goal.invariant-loop-op
-invariant-loop-op g l = Keeping pending_size (g.C.Choice.chosen l.choice) l.fn.entries l.op-index-end l.items l.len l.op-index
+abbrev pub invariant-loop-i : goal.invariant-loop-i
+invariant-loop-i g l = Keeping pending_size (λ r. g.C.Choice.chosen l.choice (decode_entry r)) l.entries l.n l.items l.len l.i

@@ -1,6 +1,9 @@
 -- `ProducerState::front_frames`: the frames of the entries that the loop has yet to reach are still to go to the front.
+use Rattle.std.proofs.Common.{map}
+use Rattle.rows.specs.Entry.{decode_entry}
+use Rattle.producer.specs.State.{state_of}
 use Rattle.producer.proofs.Fronts.{Fronting}
 use Rattle.producer.proofs.state.ProducerState.front_frames.Given as goal
 
-abbrev pub invariant-loop-op : goal.invariant-loop-op
-invariant-loop-op l = Fronting l.initial.self l.ops l.self l.op-iterator.iter.rest.now
+abbrev pub invariant-loop-row : goal.invariant-loop-row
+invariant-loop-row l = Fronting (state_of l.initial.self) (map decode_entry l.ops) (state_of l.self) (map decode_entry l.row-iterator.iter.rest.now)

@@ -1,26 +1,31 @@
--- `ProducerState::remove`: the head moves on, or the gap is closed; behind the last entry there is nothing to remove.
-use Rattle.std.proofs.Common.{◌≡◌, ℕ, ap, ◌∙◌, arith}
-use Rattle.plans.specs.Settle.{core_without}
-use Rattle.producer.specs.View.{view}
-use Rattle.producer.proofs.Full.{Full}
-use Rattle.producer.proofs.Scalars.{with_core}
-use Rattle.producer.proofs.Remove.{removed_first, removed_later, removed_none}
-use Rattle.producer.proofs.state.ProducerState.remove.Goals.{then-place-gt0, else-place-gt0}
+-- `ProducerState::remove`: the gap is closed from the shorter side; behind the last entry there is nothing to remove.
+use Rattle.std.proofs.Common.{min, ap, ◌∙◌, arith}
+use Rattle.queue.specs.Sizes.{pending_size}
+use Rattle.rules.specs.Rings.{without_front, without_last}
+use Rattle.rules.specs.declared.rings.Rings.{Rings}
+use Rattle.producer.specs.State.{state_of}
+use Rattle.producer.specs.View.{queue_of}
+use Rattle.producer.proofs.Remove.{ring_stored, removed, removed_none}
+use Rattle.producer.proofs.state.ProducerState.remove.Goals.{then-place-count-2, else-place-count-2}
 use Rattle.producer.proofs.state.ProducerState.remove.Goals as goal
 
-pub returns-after-place-gt0 : goal.returns-after-place-gt0
-returns-after-place-gt0 c =
-    let a = c.args in
-    let s = a.self.now in
-    let f : Full s = record { outbound = omega arith; held = omega arith; pending = omega arith; ids = omega arith; marks = omega arith } in
-    let core : c.without_entry-core.result ≡ core_without a.place s.core = c.without_entry-core.ensures ∙ ap (λ (p : ℕ). core_without p s.core) (omega arith) in
-    elim c.if-place-gt0.branch [
-      | then-place-gt0 w ↦
-          (λ j. view (with_core (core j) (w.self-is j)))
-          ∙ removed_later s a.place w.close_gap.new.self (λ z. omega arith) w.close_gap.ensures
-      | else-place-gt0 w ↦
-          (λ j. view (with_core (core j) (w.self-is j))) ∙ removed_first s a.place f (omega arith) (omega (arith, c.count.ensures, c.if-place-count.true))
+pub returns-after-place-count-2 : goal.returns-after-place-count-2
+returns-after-place-count-2 c =
+    let s = state_of c.args.self.now in
+    elim c.if-place-count-2.branch [
+      | then-place-count-2 w ↦
+          let t = state_of w.move_back.new.self in
+          let ring = c.encode-self.ensures ∙ w.shorter-is ∙ w.without_front-shorter.ensures ∙ ap (λ (k : Rings). without_front pending_size 1 k.pending) c.decode.ensures in
+          (λ j. queue_of (ring_stored (state_of (w.self-is j)) (ring j)))
+          ∙ removed s c.args.place t (without_front pending_size 1 s.core.rings.pending) w.move_back.ensures
+      | else-place-count-2 w ↦
+          let t = state_of w.move_up.new.self in
+          let ring = c.encode-self.ensures ∙ w.shorter-is ∙ w.without_last-shorter.ensures ∙ ap (λ (k : Rings). without_last pending_size k.pending) c.decode.ensures in
+          (λ j. queue_of (ring_stored (state_of (w.self-is j)) (ring j)))
+          ∙ removed s c.args.place t (without_last pending_size s.core.rings.pending) w.move_up.ensures
     ]
 
 pub returns-else-place-count : goal.returns-else-place-count
-returns-else-place-count c = removed_none c.args.self.now c.args.place (omega (arith, c.count.ensures))
+returns-else-place-count c =
+    let many = c.count.ensures ∙ ap (λ (k : Rings). min k.pending.len pending_size) c.decode.ensures in
+    removed_none (state_of c.args.self.now) c.args.place (omega (arith, many))

@@ -1,0 +1,9 @@
+-- The counts are no more than the places that are lent.
+use Rattle.host.proofs.Tables.{snapped}
+use Rattle.host.proofs.in_place.InPlaceDrive.snapshot_pending_sends.Goals as goal
+
+pub returns-clause-dropped : goal.returns-clause-dropped
+returns-clause-dropped c = (snapped _ _ _ _ _ _ c.snapshot.result c.snapshot.ensures.0).0
+
+pub returns-clause-replay : goal.returns-clause-replay
+returns-clause-replay c = (snapped _ _ _ _ _ _ c.snapshot.result c.snapshot.ensures.0).1

@@ -1,0 +1,9 @@
+pub mod Optional
+pub mod Message
+pub mod Frame
+pub mod Entry
+pub mod Settings
+pub mod Batch
+pub mod Rings
+pub mod Outbound
+pub mod Command
