@@ -3,6 +3,7 @@
 mod answers;
 mod clock;
 mod encode;
+mod linked;
 mod measure;
 mod port;
 mod report;
@@ -19,16 +20,23 @@ mod operations;
 mod script;
 #[path = "../../differential/src/writer.rs"]
 mod writer;
+// The header's structs and functions, and how they are made of operations.
+#[allow(dead_code)]
+#[path = "../../differential/src/port/given.rs"]
+mod given;
+#[allow(dead_code)]
+#[path = "../../differential/src/port/layout.rs"]
+mod layout;
 
 use std::{env, thread};
 
 use port::Drive;
 
-/// The port keeps its state on the stack.
+/// The host of scripts keeps the port's state on the stack.
 const STACK: usize = 64 << 20;
 
 const USAGE: &str = "usage: bench
-       bench port in-place|by-value WORKLOAD TIMES   the port alone, for a profiler";
+       bench port linked|in-place|by-value WORKLOAD TIMES   the port alone, for a profiler";
 
 fn main() {
     let words: Vec<String> = env::args().skip(1).collect();
@@ -46,6 +54,7 @@ fn command(words: &[String]) {
     let words: Vec<&str> = words.iter().map(String::as_str).collect();
     match words[..] {
         [] => everything(),
+        ["port", "linked", name, times] => linked_alone(name, times),
         ["port", "in-place", name, times] => port_alone(name, Drive::InPlace, times),
         ["port", "by-value", name, times] => port_alone(name, Drive::ByValue, times),
         _ => eprintln!("{USAGE}"),
@@ -84,5 +93,20 @@ fn port_alone(name: &str, drive: Drive, times: &str) {
     let mut scripts = measure::port_side(workload, drive);
     for _ in 0..times.parse().unwrap_or(1) {
         println!("{:.0} ns for a {}", scripts.time(1), workload.unit);
+    }
+}
+
+fn linked_alone(name: &str, times: &str) {
+    let all = workloads::all();
+    let Some(workload) = all.iter().find(|one| one.name == name) else {
+        all.iter().for_each(|one| println!("{}", one.name));
+        return;
+    };
+    for _ in 0..times.parse().unwrap_or(1) {
+        println!(
+            "{:.0} ns for a {}",
+            measure::linked_time(workload),
+            workload.unit
+        );
     }
 }

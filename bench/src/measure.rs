@@ -4,6 +4,7 @@ use bytes::Bytes;
 
 use crate::answers::{self, DONE};
 use crate::clock::timed;
+use crate::linked::Linked;
 use crate::operations::Operation;
 use crate::port::{self, Drive};
 use crate::rust::{Frames, Rust};
@@ -94,6 +95,29 @@ fn rust_time(workload: &Workload, frames: Frames, output: &mut Vec<u8>) -> f64 {
     time as f64 / units as f64
 }
 
+/// The nanoseconds of the exported operations for a unit, measured as the Rust's.
+pub fn linked_time(workload: &Workload) -> f64 {
+    let blocks = workload.blocks(Drive::InPlace);
+    let units = blocks.len() as u64 * workload.units;
+    let mut linked = Linked::new(&workload.store, None);
+    linked.run(&workload.before);
+    let time: u64 = blocks.iter().map(|block| linked.run(block)).sum();
+    time as f64 / units as f64
+}
+
+/// Their payloads are seen to be the Rust's.
+fn check_linked(workload: &Workload) {
+    let mut operations = workload.before.clone();
+    operations.extend(workload.blocks(Drive::InPlace).into_iter().flatten());
+    let mut linked = Linked::new(&workload.store, Some(Vec::new()));
+    linked.run(&operations);
+    assert!(
+        linked.output.as_deref() == Some(&rust_payloads(&workload.store, &operations)),
+        "{}: the payloads of the exported operations and Rust",
+        workload.name
+    );
+}
+
 /// Nanoseconds of an empty script: a new state.
 pub fn empty_script(drive: Drive) -> f64 {
     const SCRIPTS: u32 = 1_000;
@@ -110,6 +134,7 @@ pub fn empty_script(drive: Drive) -> f64 {
 /// Nanoseconds for a unit, in one repetition.
 #[derive(Debug, Clone, Copy)]
 pub struct Sample {
+    pub linked: f64,
     pub in_place: f64,
     pub by_value: f64,
     pub handed_out: f64,
@@ -119,10 +144,12 @@ pub struct Sample {
 pub fn measure(workload: &Workload) -> Vec<Sample> {
     let mut in_place = port_side(workload, Drive::InPlace);
     let mut by_value = port_side(workload, Drive::ByValue);
+    check_linked(workload);
     let mut output = Vec::new();
     rust_time(workload, Frames::Written, &mut output);
     (0..REPETITIONS)
         .map(|_| Sample {
+            linked: linked_time(workload),
             in_place: in_place.time(1),
             handed_out: rust_time(workload, Frames::HandedOut, &mut output),
             written: rust_time(workload, Frames::Written, &mut output),

@@ -40,25 +40,27 @@ impl Spread {
 pub fn heading() {
     println!("Medians for a unit, and the median, least and greatest ratio of a repetition.\n");
     println!(
-        "| work | unit | in place | by value | Rust, handed out | Rust, written \
-         | in place / handed out | in place / written | by value / written |"
+        "| work | unit | exported | in place | by value | Rust, handed out | Rust, written \
+         | exported / handed out | exported / written | in place / handed out | by value / written |"
     );
-    println!("|---|---|---|---|---|---|---|---|---|");
+    println!("|---|---|---|---|---|---|---|---|---|---|---|");
 }
 
 pub fn workload(workload: &Workload, samples: &[Sample]) {
     let time = |of: fn(&Sample) -> f64| Spread::of(samples.iter().map(of)).time();
     let ratio = |of: fn(&Sample) -> f64| Spread::of(samples.iter().map(of)).ratio();
     println!(
-        "| {} | {} | {} | {} | {} | {} | {} | {} | {} |",
+        "| {} | {} | {} | {} | {} | {} | {} | {} | {} | {} | {} |",
         workload.name,
         workload.unit,
+        time(|one| one.linked),
         time(|one| one.in_place),
         time(|one| one.by_value),
         time(|one| one.handed_out),
         time(|one| one.written),
+        ratio(|one| one.linked / one.handed_out),
+        ratio(|one| one.linked / one.written),
         ratio(|one| one.in_place / one.handed_out),
-        ratio(|one| one.in_place / one.written),
         ratio(|one| one.by_value / one.written),
     );
 }

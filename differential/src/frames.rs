@@ -42,7 +42,7 @@ impl Store {
         }
     }
 
-    fn text(&self, part: Part) -> Result<String, NotUtf8> {
+    pub fn text(&self, part: Part) -> Result<String, NotUtf8> {
         String::from_utf8(self.bytes(part).to_vec()).map_err(|_| NotUtf8)
     }
 }
@@ -103,7 +103,12 @@ fn uuid_text(uuid: [u8; 16]) -> String {
     groups.join("-")
 }
 
-fn frame(send: pb::CommandSend, metadata: pb::MessageMetadata, payload: Bytes) -> OutboundFrame {
+/// A frame as the Rust hands it out.
+pub fn frame_of(
+    send: pb::CommandSend,
+    metadata: pb::MessageMetadata,
+    payload: Bytes,
+) -> OutboundFrame {
     let sequence_id = SequenceId(send.sequence_id);
     OutboundFrame {
         command: pb::BaseCommand {
@@ -158,7 +163,7 @@ fn own_frame(
         message_id: message.source_id.map(|id| source_id(id).to_pb()),
         ..Default::default()
     };
-    frame(send, metadata, store.bytes(sent.payload(index)))
+    frame_of(send, metadata, store.bytes(sent.payload(index)))
 }
 
 /// The frame of a message that has frames of its own.
@@ -210,5 +215,5 @@ pub fn batch<'a>(
     };
     let mut payload = Vec::new();
     messages.for_each(|message| wire::item(store, message, &mut payload));
-    frame(send, metadata, Bytes::from(payload))
+    frame_of(send, metadata, Bytes::from(payload))
 }

@@ -15,6 +15,7 @@ use crate::bounds::{self, Plan, Standing, Way};
 use crate::compare::assert_same_frame;
 use crate::frames::{self, NotUtf8, Store};
 use crate::operations::{Operation, Send, Transaction};
+use crate::run::Producer;
 use crate::shadow::{Chunks, Entry, Sent, Shadow, Waiting};
 
 /// The Rust's documented default (docs/DECISIONS.md, 6).
@@ -79,9 +80,11 @@ impl Oracle {
             checks,
         }
     }
+}
 
+impl Producer for Oracle {
     /// Carries out one operation: the bounds first, and the Rust if none of them refuses.
-    pub fn execute(&mut self, operation: &Operation) -> Step {
+    fn execute(&mut self, operation: &Operation) -> Step {
         if clocks(operation).iter().any(|clock| *clock >= CLOCK_END) {
             return Err(NotComparable);
         }
@@ -161,7 +164,9 @@ impl Oracle {
         self.assert_same_counts();
         Ok(answer)
     }
+}
 
+impl Oracle {
     pub(crate) fn instant(&self, clock: u64) -> Instant {
         self.start + Duration::from_millis(clock)
     }

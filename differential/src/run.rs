@@ -7,8 +7,9 @@ use prost::Message as _;
 
 use crate::answers::{Answer, Answers, Ending, room};
 use crate::counts::Counts;
-use crate::oracle::{Checks, Oracle};
-use crate::script::{read_head, read_operation};
+use crate::operations::Operation;
+use crate::oracle::{Checks, Oracle, Step};
+use crate::script::{Head, read_head, read_operation};
 
 /// Where a script is kept on which the Rust and document 01 disagree.
 const FAILING: &str = concat!(env!("CARGO_MANIFEST_DIR"), "/target/failing.script");
@@ -24,6 +25,11 @@ pub struct Observer {
     pub checks: Checks,
 }
 
+/// What carries out the operations of a script.
+pub trait Producer {
+    fn execute(&mut self, operation: &Operation) -> Step;
+}
+
 /// Carries out a script and writes its answers to the start of `out`; answers their length.
 fn run(script: &[u8], out: &mut [u8], observer: &mut Observer) -> usize {
     let mut answers = Answers::new(out);
@@ -31,21 +37,35 @@ fn run(script: &[u8], out: &mut [u8], observer: &mut Observer) -> usize {
     if !answers.has_room(0) {
         return 0;
     }
-    let (ending, offset) = operations(script, &mut answers, observer);
+    let checks = observer.checks;
+    let (ending, offset) = operations(
+        script,
+        &mut answers,
+        |head| Oracle::new(head.handle, head.store, checks),
+        |operation, answer| {
+            observer.counts.answer(operation.code(), answer);
+            if let (Some(frames), Answer::Frame(frame)) = (&mut observer.frames, answer) {
+                let metadata = frame.metadata.encode_to_vec();
+                frames.push((frame.command.encode_to_vec(), metadata));
+            }
+        },
+    );
     observer.counts.ending(ending);
     answers.ending(ending, offset);
     answers.length()
 }
 
-fn operations(
-    script: &[u8],
+/// Carries out the operations of a script by a new producer; `seen` is shown each answer. Answers how the run ended, and where.
+pub fn operations<'a, P: Producer>(
+    script: &'a [u8],
     answers: &mut Answers<'_>,
-    observer: &mut Observer,
+    new: impl FnOnce(&Head<'a>) -> P,
+    mut seen: impl FnMut(&Operation, &Answer),
 ) -> (Ending, usize) {
     let Some(head) = read_head(script) else {
         return (Ending::Malformed, 0);
     };
-    let mut oracle = Oracle::new(head.handle, head.store, observer.checks);
+    let mut producer = new(&head);
     let mut at = head.end;
     while at < script.len() {
         let Some((operation, next)) = read_operation(script, at) else {
@@ -54,18 +74,14 @@ fn operations(
         if !answers.has_room(room(&operation)) {
             return (Ending::NoRoom, at);
         }
-        let Ok(answer) = oracle.execute(&operation) else {
+        let Ok(answer) = producer.execute(&operation) else {
             return (Ending::NotComparable, at);
         };
         let before = answers.length() as u64;
         answers.answer(operation.code(), &answer);
         let written = answers.length() as u64 - before;
         assert!(written <= room(&operation), "an answer's room");
-        observer.counts.answer(operation.code(), &answer);
-        if let (Some(frames), Answer::Frame(frame)) = (&mut observer.frames, &answer) {
-            let metadata = frame.metadata.encode_to_vec();
-            frames.push((frame.command.encode_to_vec(), metadata));
-        }
+        seen(&operation, &answer);
         at = next;
     }
     (Ending::End, at)

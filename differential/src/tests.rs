@@ -12,7 +12,7 @@ use crate::guard::{Edge, Guarded};
 use crate::operations::{Operation, ReceiptId};
 use crate::oracle::{Checks, Oracle};
 use crate::reconnects::Reconnects;
-use crate::run::{Observer, answers_of};
+use crate::run::{Observer, Producer as _, answers_of};
 use crate::script::{read_head, read_operation};
 use crate::shrink::{describe, smallest};
 use crate::writer::Script;

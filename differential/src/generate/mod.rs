@@ -9,7 +9,7 @@ mod exhaustive;
 mod full;
 mod limits;
 mod long;
-mod random;
+pub mod random;
 #[cfg(feature = "port")]
 pub mod rounds;
 pub mod twice;

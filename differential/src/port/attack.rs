@@ -6,6 +6,7 @@ use std::os::unix::process::parent_id;
 use std::time::Instant;
 use std::{io, process, thread};
 
+use super::states::{StateTally, States};
 use super::{STACK, child, run};
 use crate::answers::{ENDING, Ending};
 use crate::drive::Drive;
@@ -31,6 +32,7 @@ struct Tally {
     kinds: [u64; KINDS.len()],
     in_place: u64,
     by_value: u64,
+    states: StateTally,
     /// By the last record: end, malformed, no room; or nothing, in an output that is too short.
     endings: [u64; 4],
     /// The bytes of all answers, and a sum of them: so every one of them is looked at, and two runs
@@ -38,6 +40,9 @@ struct Tally {
     bytes: u64,
     sum: u64,
 }
+
+/// Marks the number of a call on a state of any bytes.
+const STATE: u64 = 1 << 63;
 
 const ENDINGS: [(Ending, &str); 3] = [
     (Ending::End, "end"),
@@ -67,6 +72,10 @@ impl Attack {
             .iter()
             .map(|at| u64::from_le_bytes(*at))
         {
+            if number & STATE != 0 {
+                text += &format!("the call of number {} on a state\n", number & !STATE);
+                continue;
+            }
             let (case, drive, edge) = prepared(attacks::case(seed, number).0, number);
             text += &format!(
                 "number {number}, {drive}, at the {edge} page: {}",
@@ -122,10 +131,19 @@ impl Attack {
             tally.endings[ending] += 1;
             tally.bytes += length as u64;
             tally.sum = tally.sum.wrapping_add(sum_of(&output[..length]));
-            match drive {
-                Drive::InPlace => tally.in_place += 1,
-                Drive::ByValue => tally.by_value += 1,
+            if drive == Drive::ByValue {
+                tally.by_value += 1;
+            } else {
+                tally.in_place += 1;
             }
+        }
+        let mut states = States::new(self.seed ^ first << 32)?;
+        for number in (first..self.count).step_by(self.threads as usize) {
+            note(numbers, first, STATE | number).map_err(|error| error.to_string())?;
+            let place = number / self.threads;
+            states
+                .call(place, &mut tally.states)
+                .map_err(|fault| format!("state {number}: {fault}"))?;
         }
         Ok(tally)
     }
@@ -208,6 +226,7 @@ impl Tally {
         sums.for_each(|(sum, count)| *sum += count);
         self.in_place += other.in_place;
         self.by_value += other.by_value;
+        self.states.add(other.states);
         self.bytes += other.bytes;
         self.sum = self.sum.wrapping_add(other.sum);
     }
@@ -224,5 +243,7 @@ impl Tally {
         let endings: Vec<String> = endings.map(|(name, n)| format!("{name} {n}")).collect();
         say!("  endings   {}", endings.join(", "));
         say!("  answers   {} bytes, sum {:016x}", self.bytes, self.sum);
+        let StateTally { calls, refused } = self.states;
+        say!("{calls} calls on states of any bytes, {refused} refused");
     }
 }

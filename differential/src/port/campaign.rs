@@ -14,7 +14,7 @@ use crate::reconnects::Reconnects;
 use crate::run::{Observer, answers_of};
 use crate::shrink::describe;
 
-/// If both drives are asked for, one of so many scripts is also carried out by value.
+/// If all drives are asked for, one of so many scripts is also carried out by value.
 const SHARE: u64 = 32;
 /// A thread that has met so many differences stops.
 const ENOUGH: usize = 3;
@@ -31,8 +31,8 @@ pub struct Campaign {
 
 #[derive(Debug, Clone, Copy, PartialEq, Eq)]
 pub enum Drives {
-    /// All scripts in place, and a share of them by value.
-    Both,
+    /// All scripts in place and linked, and a share of them by value.
+    All,
     Only(Drive),
 }
 
@@ -40,6 +40,7 @@ pub enum Drives {
 #[derive(Default)]
 pub struct Found {
     in_place: Counts,
+    linked: Counts,
     by_value: Counts,
     reconnects: Reconnects,
     differences: Vec<String>,
@@ -60,6 +61,7 @@ impl Campaign {
         for worker in workers {
             let part = worker.join().map_err(|_| "a thread was ended")?;
             found.in_place.add(&part.in_place);
+            found.linked.add(&part.linked);
             found.by_value.add(&part.by_value);
             found.reconnects.add(&part.reconnects);
             found.differences.extend(part.differences);
@@ -76,10 +78,11 @@ impl Found {
         let mut wrong = Vec::new();
         let sides = [
             (Drive::InPlace, &self.in_place),
+            (Drive::Linked, &self.linked),
             (Drive::ByValue, &self.by_value),
         ];
         for (drive, counts) in sides {
-            if campaign.drives == Drives::Both || campaign.drives == Drives::Only(drive) {
+            if campaign.drives == Drives::All || campaign.drives == Drives::Only(drive) {
                 say!("{drive}: {counts}\n");
                 let faults = counts.missing().into_iter().chain(counts.unknown());
                 wrong.extend(faults.map(|fault| format!("{drive}: {fault}")));
@@ -91,7 +94,7 @@ impl Found {
             say!("{text}");
         }
         let (count, seconds) = (self.differences.len(), self.seconds);
-        let calls = self.in_place.calls + self.by_value.calls;
+        let calls = self.in_place.calls + self.linked.calls + self.by_value.calls;
         let rate = calls as f64 / seconds;
         let seed = campaign.seed;
         say!("seed {seed}, {seconds:.0} s, {rate:.0} calls a second, {count} differences");
@@ -111,6 +114,7 @@ struct Worker {
     campaign: Campaign,
     number: u64,
     in_place: Beside,
+    linked: Beside,
     by_value: Beside,
     reconnects: Reconnects,
     differences: Vec<String>,
@@ -122,6 +126,7 @@ impl Worker {
             campaign,
             number,
             in_place: Beside::new(super::run, Drive::InPlace),
+            linked: Beside::new(super::linked::run, Drive::Linked),
             by_value: Beside::new(super::run, Drive::ByValue),
             reconnects: Reconnects::default(),
             differences: Vec::new(),
@@ -133,6 +138,7 @@ impl Worker {
         self.rounds();
         Found {
             in_place: self.in_place.observer.counts,
+            linked: self.linked.observer.counts,
             by_value: self.by_value.observer.counts,
             reconnects: self.reconnects,
             differences: self.differences,
@@ -192,26 +198,24 @@ impl Worker {
         self.differences.len() >= ENOUGH
     }
 
-    /// Whether a script is carried out in place, and whether by value; `shared` is whether it is
-    /// one of those that both drives carry out.
-    fn wanted(&self, shared: bool) -> (bool, bool) {
+    /// Whether a script is carried out in this way; `shared` is whether it is one of those that go by value too.
+    fn wants(&self, drive: Drive, shared: bool) -> bool {
         match self.campaign.drives {
-            Drives::Both => (true, shared),
-            Drives::Only(drive) => (drive == Drive::InPlace, drive == Drive::ByValue),
+            Drives::All => shared || drive != Drive::ByValue,
+            Drives::Only(only) => drive == only,
         }
     }
 
     /// Compares what follows two reconnects with what follows one, in the Rust and in the ways
     /// that are asked for.
     fn reconnects(&mut self, pair: &Pair, shared: bool) {
-        let (in_place, by_value) = self.wanted(shared);
         let mut observer = Observer::default();
         let mut rust = |script: &[u8], output| answers_of(script, output, &mut observer);
         let found = self.reconnects.difference(pair, &mut rust);
         self.differences
             .extend(found.map(|text| format!("the Rust: {text}")));
-        for (drive, wanted) in [(Drive::InPlace, in_place), (Drive::ByValue, by_value)] {
-            if wanted {
+        for drive in [Drive::InPlace, Drive::Linked, Drive::ByValue] {
+            if self.wants(drive, shared) {
                 let mut port = |script: &[u8], output| super::answers(script, output, drive);
                 let found = self.reconnects.difference(pair, &mut port);
                 self.differences
@@ -222,14 +226,13 @@ impl Worker {
 
     /// Compares a script in the ways that are asked for.
     fn compare(&mut self, mut case: Case, shared: bool) {
-        let (in_place, by_value) = self.wanted(shared);
         if self.has_enough() {
             return;
         }
-        for (beside, wanted) in [
-            (&mut self.in_place, in_place),
-            (&mut self.by_value, by_value),
-        ] {
+        let wanted =
+            [Drive::InPlace, Drive::Linked, Drive::ByValue].map(|drive| self.wants(drive, shared));
+        let besides = [&mut self.in_place, &mut self.linked, &mut self.by_value];
+        for (beside, wanted) in besides.into_iter().zip(wanted) {
             if wanted && beside.difference(&mut case).is_some() {
                 let text = describe(&case, beside.host, beside.drive);
                 self.differences.push(text);

@@ -1,8 +1,17 @@
 //! The port's exported function, and what the port is asked.
 
+#[macro_use]
+mod layout;
+
 mod attack;
+mod calls;
 mod campaign;
+mod client;
+mod depth;
+mod given;
+mod linked;
 mod stack;
+mod states;
 
 use std::env;
 use std::process::{Command, ExitStatus};
@@ -24,9 +33,11 @@ unsafe extern "C" {
 }
 
 pub const USAGE: &str = "
-  port [CALLS [SEED [DRIVE [THREADS]]]]  the port beside the Rust; DRIVE is both, in-place, by-value
-  attack [COUNT [SEED [THREADS]]]  random and damaged scripts through the port's function
-  stack                            the stack that the port's function needs";
+  port [CALLS [SEED [DRIVE [THREADS]]]]  the port beside the Rust; DRIVE is all, in-place, linked, by-value
+  attack [COUNT [SEED [THREADS]]]  random and damaged scripts through the port's function, and
+                                   its exported operations on states of any bytes
+  client                           the header's layout, and a C program
+  stack                            the stack that the port's exported functions need";
 
 /// The stack of a thread that calls the port: more than the command `stack` finds necessary.
 const STACK: usize = 64 << 20;
@@ -43,7 +54,12 @@ fn answers(script: &[u8], output: usize, drive: Drive) -> Vec<u8> {
     let mut script = script.to_vec();
     drive.set(&mut script);
     let mut answers = vec![UNTOUCHED; output];
-    let length = run(&script, &mut answers);
+    let host = if drive == Drive::Linked {
+        linked::run
+    } else {
+        run
+    };
+    let length = host(&script, &mut answers);
     answers.truncate(length);
     answers
 }
@@ -54,6 +70,7 @@ pub fn command(words: &[&str]) -> Option<Result<(), String>> {
         ["port", ref words @ ..] if words.len() <= 4 => Some(beside(words)),
         ["attack", ref words @ ..] if words.len() <= 3 => Some(attack(words, Attack::run)),
         ["attack-here", ref words @ ..] => Some(attack(words, Attack::run_here)),
+        ["client"] => Some(client::run()),
         ["stack"] => Some(stack::measure()),
         ["stack-here", ref words @ ..] => Some(stack_here(words)),
         _ => None,
@@ -76,8 +93,9 @@ fn number(words: &[&str], place: usize, default: u64) -> Result<u64, String> {
 
 fn beside(words: &[&str]) -> Result<(), String> {
     let drives = match words.get(2) {
-        None | Some(&"both") => Drives::Both,
+        None | Some(&"all") => Drives::All,
         Some(&"in-place") => Drives::Only(Drive::InPlace),
+        Some(&"linked") => Drives::Only(Drive::Linked),
         Some(&"by-value") => Drives::Only(Drive::ByValue),
         Some(word) => return Err(format!("{word} is no drive")),
     };

@@ -1,9 +1,11 @@
-//! The stack that the port's exported function needs.
+//! The stack that the port's exported functions need.
 
 use std::ffi::{c_int, c_void};
-use std::ptr;
+use std::{ptr, thread};
 
-use super::{child, run};
+use super::calls::{self, NAMES, Needs};
+use super::states::{StateTally, States};
+use super::{STACK, child, depth, linked, run};
 use crate::drive::Drive;
 use crate::generate::build::Case;
 use crate::generate::{CLASSES, rounds};
@@ -14,6 +16,18 @@ const STEP: u64 = 4;
 const LARGEST: u64 = 64 << 10;
 /// So much below the stack may not be touched: a frame that passes the stack's end ends the process.
 const GUARD: usize = 1 << 30;
+/// Rounds of random scripts, and calls on states of any bytes, by which the operations are measured.
+const ROUNDS: u64 = 1;
+const CALLS: u64 = 20_000;
+/// What an operation may need, those on tables and all replays aside.
+const MOST: usize = 64 << 10;
+const ASIDE: [&str; 5] = [
+    "tevrulig_drain_pending_sends",
+    "tevrulig_drain_timed_out_sends",
+    "tevrulig_snapshot_pending_sends",
+    "tevrulig_replay_snapshots",
+    "tevrulig_replay_pending_outbound",
+];
 
 /// Memory for glibc's thread attributes, which have 56 bytes.
 #[repr(C, align(16))]
@@ -32,8 +46,56 @@ unsafe extern "C" {
     fn pthread_join(thread: u64, answer: *mut *mut c_void) -> c_int;
 }
 
-/// Prints for each drive the smallest stack on which all the scripts go through.
+/// Prints what the operations need, and the host of scripts.
 pub fn measure() -> Result<(), String> {
+    operations()?;
+    scripts()
+}
+
+/// Prints what each operation needed at most; fails if that is too much.
+fn operations() -> Result<(), String> {
+    let builder = thread::Builder::new().stack_size(STACK);
+    let worker = builder.spawn(|| calls::needs_of(every_operation));
+    let worker = worker.map_err(|error| error.to_string())?;
+    let needs: Needs = worker.join().map_err(|_| "a thread was ended")??;
+    let nearest = depth::NEAREST;
+    say!("bytes of the stack, {nearest} also where fewer are needed:");
+    let mut largest = 0;
+    for name in NAMES {
+        let need = *needs.get(name).ok_or(format!("{name} was not called"))?;
+        say!("  {name:40} {need:6}");
+        if !ASIDE.contains(name) {
+            largest = largest.max(need);
+        }
+    }
+    say!("the largest, tables and replays aside: {largest}");
+    if largest > MOST {
+        return Err(format!("an operation needs more than {MOST} bytes"));
+    }
+    Ok(())
+}
+
+/// Operations at states from empty to full, and at states of any bytes.
+fn every_operation() -> Result<(), String> {
+    let mut cases = cases(Drive::Linked);
+    for round in 0..ROUNDS {
+        rounds::cases(1, round, &mut |case| cases.push(case));
+    }
+    for case in cases {
+        linked::run(&case.script, &mut vec![UNTOUCHED; case.output]);
+    }
+    let mut states = States::new(1)?;
+    let mut tally = StateTally::default();
+    for number in 0..CALLS {
+        states.call(number, &mut tally)?;
+    }
+    // SAFETY: it answers a number.
+    unsafe { calls::tevrulig_producer_size() };
+    Ok(())
+}
+
+/// Prints for each drive the smallest stack on which all the scripts go through.
+fn scripts() -> Result<(), String> {
     for drive in [Drive::InPlace, Drive::ByValue] {
         let (mut fails, mut works) = (0, LARGEST);
         if !goes(drive, works)? {
