@@ -9,9 +9,9 @@
  *
  * Bytes stand in a store that the caller lends with a send and with the take of its frame: messages name parts of it. Optional
  * values are there where `present` is not 0, switches are on where they are not 0, and a tag that no comment names counts as the
- * last that one does. Times are in milliseconds. A call needs at most 4 KiB of stack, or 8 KiB to replay a table; the drains,
- * tevrulig_replay_pending_outbound and a snapshot gather entries there and need up to 600 KB. Every function is proved to answer
- * and leave what its definition says; see docs/ORDER.md. */
+ * last that one does. Times are in milliseconds. A call needs at most 32 KiB of stack, but for the drains and the snapshot, which
+ * gather entries there and need up to 600 KB. Every function is proved to answer and leave what its definition says; see
+ * docs/ORDER.md. */
 #ifndef TEVRULIG_H
 #define TEVRULIG_H
 

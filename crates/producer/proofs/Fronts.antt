@@ -54,7 +54,13 @@ fronted_last [] op o =
     (λ j. record { frames = (fronted_one op o).frames; waiting = e j; held = o.held; batch = o.batch }) ∙ fronted_next op [] o
 fronted_last (x ∷ l) op o = sym (fronted_next x l (fronted_one op o)) ∙ ap (fronted_one x) (fronted_last l op o) ∙ fronted_next x (l ++ op ∷ []) o
 
-fronted_none : (o : Outgoing) → o.waiting < 2 ^ 64 → o ≡ fronted [] o
+pub fronted_both : (l m : List OpSend) (o : Outgoing) → fronted l (fronted m o) ≡ fronted (l ++ m) o
+fronted_both [] m o =
+    let e : add_sat 0 (add_sat (frames_for m) o.waiting) ≡ add_sat (frames_for m) o.waiting = omega arith in
+    λ j. record { frames = (fronted m o).frames; waiting = e j; held = o.held; batch = o.batch }
+fronted_both (x ∷ l) m o = sym (fronted_next x l (fronted m o)) ∙ ap (fronted_one x) (fronted_both l m o) ∙ fronted_next x (l ++ m) o
+
+pub fronted_none : (o : Outgoing) → o.waiting < 2 ^ 64 → o ≡ fronted [] o
 fronted_none o h =
     let e : o.waiting ≡ add_sat 0 o.waiting = omega arith in
     λ j. record { frames = o.frames; waiting = e j; held = o.held; batch = o.batch }

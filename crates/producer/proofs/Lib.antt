@@ -4,6 +4,7 @@ pub mod Drains
 pub mod Entries
 pub mod Fits
 pub mod Flushes
+pub mod Free
 pub mod Fresh
 pub mod Fronts
 pub mod Full

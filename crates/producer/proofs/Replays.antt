@@ -1,6 +1,6 @@
 -- The replays: what is planned and stored makes the queue and the answer of the definitions. Assumes nothing.
 use Rattle.std.specs.Prelude.{Err, Ok, Result}
-use Rattle.std.proofs.Common.{◌≡◌, ℕ, ◌+◌, ◌^◌, ◌<◌, ◌≤◌, min, Bool, true, false, not, ltb, List, map, length, take, sym, refl, ap, ◌∙◌, arith, ltb-false, lt-ltb}
+use Rattle.std.proofs.Common.{◌≡◌, ℕ, ◌+◌, ◌^◌, ◌<◌, ◌≤◌, min, Bool, true, false, not, ltb, List, map, length, sym, refl, ap, ◌∙◌, arith, ltb-false, lt-ltb}
 use native.Mathlib.Decide.{dec_lt}
 use lib.ListN.{length-map}
 use Rattle.laws.specs.Choice.{pick}
@@ -24,7 +24,6 @@ use Rattle.producer.specs.View.{queue_of}
 use Rattle.producer.specs.State.{State}
 use Rattle.producer.proofs.Full.{Full}
 use Rattle.producer.proofs.Borne.{unborne_ids}
-use Rattle.producer.proofs.Listed.{all_pending}
 use Rattle.producer.proofs.Views.{pending_length}
 
 -- where an answer leads: a refusal leaves the queue
@@ -47,13 +46,9 @@ module _ (s : State) where
   left = unborne (queue_of s).out.frames (queue_of s).pending
 
   -- the entries chosen are those of the definition
-  pub found : (ids : List SequenceId) (ops l : List OpSend) → ids ≡ map frame_id (queue_of s).out.frames → ops ≡ (queue_of s).pending
-      → l ≡ keeping (free ids) (take pending_size ops) → l ≡ left
-  found ids ops l named listed e =
-      e
-      ∙ (λ j. keeping (free (named j)) (take pending_size (listed j)))
-      ∙ ap (keeping (free (map frame_id (queue_of s).out.frames))) (all_pending s)
-      ∙ unborne_ids (queue_of s).out.frames (queue_of s).pending
+  pub found : (ids : List SequenceId) → ids ≡ map frame_id (queue_of s).out.frames → keeping (free ids) (queue_of s).pending ≡ left
+  found ids named =
+      ap (λ (l : List SequenceId). keeping (free l) (queue_of s).pending) named ∙ unborne_ids (queue_of s).out.frames (queue_of s).pending
 
   pub counts : ends_as (replay_count (add_sat 0 (frames_for left)) s.core) (queue_of s) (with_out (fronted left (queue_of s).out) (queue_of s))
       ≡ replay_pending_outbound (queue_of s)

@@ -1,15 +1,17 @@
 // The replays (document 01, 'receipts, errors, snapshot, replay').
 ghost use Rattle.std.specs.Prelude.{◌≡◌, ◌<◌, ◌^◌, [], map};
-ghost use Rattle.laws.specs.Lists.{front_all};
+ghost use Rattle.laws.specs.Lists.{front_all, keeping};
+ghost use Rattle.laws.specs.Numbers.{add_sat};
 ghost use Rattle.queue.specs.Queue.{with_out, with_pending};
 ghost use Rattle.queue.specs.Sizes.{pending_size};
 ghost use Rattle.queue.specs.Run.{replay, resend};
-ghost use Rattle.queue.specs.Tables.{fronted, mark};
+ghost use Rattle.queue.specs.Tables.{frames_for, fronted, mark};
 ghost use Rattle.queue.specs.Told.{Kept, told};
 ghost use Rattle.producer.specs.Meets.{Meets};
 ghost use Rattle.producer.specs.Replay.{frame_id};
 ghost use Rattle.rows.specs.Entry.{decode_entry};
 ghost use Rattle.tables.specs.Picked.{Lists};
+ghost use Rattle.tables.specs.Unborne.{free};
 ghost use Rattle.producer.specs.View.{view};
 
 use crate::answer::Answered;
@@ -18,7 +20,7 @@ use rows::entry::OpSendRow;
 use rules::rings::Rings;
 use tables::entries::{all_well_formed, frame_again, frames_of};
 use tables::list::Listed;
-use tables::pick::picked;
+use tables::pick::Choice;
 use tables::pushes::frames_for;
 use tables::unborne::Unborne;
 use types::error::ProducerError;
@@ -73,24 +75,50 @@ impl ProducerState {
         Listed { items, len }
     }
 
+    // How many frames the entries have that bear none of the ids. A sum that would stop is refused all the same.
+    fn unborne_frames(&self, ids: &[SequenceId]) -> usize
+        ensures { result ≡ add_sat 0 (frames_for (keeping (free ids.now) (view self.now).pending)) }
+    {
+        let choice = Unborne { ids };
+        let n = self.core.rings.decode().pending.count();
+        let mut sum: usize = 0;
+        for i in 0..n {
+            let row = self.row_at(i);
+            let more = if choice.chooses(&row) {
+                frames_of(row.publish.replay.decode())
+            } else {
+                0
+            };
+            sum = sum.saturating_add(more);
+        }
+        sum
+    }
+
+    // Their frames in front of those that wait, in order: the last entry's go first.
+    fn front_unborne(&mut self, ids: &[SequenceId])
+        requires { self.old.core.rings.waiting < 2 ^ 64 }
+        ensures { view self.new ≡ with_out (fronted (keeping (free ids.now) (view self.old).pending) (view self.old).out) (view self.old) }
+    {
+        let choice = Unborne { ids };
+        let n = self.core.rings.decode().pending.count();
+        for i in 0..n {
+            let row = self.row_at(n - i - 1);
+            if choice.chooses(&row) {
+                let one = [row];
+                self.front_frames(&one);
+            }
+        }
+    }
+
     #[inline(never)]
     pub fn resend(&mut self) -> Result<usize, ProducerError>
         ensures meets { Meets [] resend self.old self.new (told result) }
         ensures kept { Kept (told result) self.old self.new }
     {
-        let pending = self.entries();
         let ids = self.waiting_ids();
-        let left = picked(
-            pending.as_slice(),
-            Unborne {
-                ids: ids.as_slice(),
-            },
-        );
-        let count = self
-            .core
-            .decode()
-            .replay_count(frames_for(left.as_slice()))?;
-        self.front_frames(left.as_slice());
+        let frames = self.unborne_frames(ids.as_slice());
+        let count = self.core.decode().replay_count(frames)?;
+        self.front_unborne(ids.as_slice());
         Ok(count)
     }
 
