@@ -19,14 +19,13 @@ const GUARD: usize = 1 << 30;
 /// Rounds of random scripts, and calls on states of any bytes, by which the operations are measured.
 const ROUNDS: u64 = 1;
 const CALLS: u64 = 20_000;
-/// What an operation may need, those on tables and all replays aside.
+/// What an operation may need, those on lent tables aside.
 const MOST: usize = 64 << 10;
-const ASIDE: [&str; 5] = [
+const ASIDE: [&str; 4] = [
     "tevrulig_drain_pending_sends",
     "tevrulig_drain_timed_out_sends",
     "tevrulig_snapshot_pending_sends",
     "tevrulig_replay_snapshots",
-    "tevrulig_replay_pending_outbound",
 ];
 
 /// Memory for glibc's thread attributes, which have 56 bytes.
@@ -68,7 +67,7 @@ fn operations() -> Result<(), String> {
             largest = largest.max(need);
         }
     }
-    say!("the largest, tables and replays aside: {largest}");
+    say!("the largest, lent tables aside: {largest}");
     if largest > MOST {
         return Err(format!("an operation needs more than {MOST} bytes"));
     }
