@@ -235,6 +235,7 @@ struct tevrulig_stats {
 
 struct tevrulig_limits {
     size_t max_message_size, max_batch_size_bytes, max_messages_in_batch;
+    size_t metadata_reservation;
 };
 
 struct tevrulig_switches {
@@ -330,10 +331,12 @@ void tevrulig_new(struct tevrulig_producer *producer, uint64_t handle);
 /* sizeof(struct tevrulig_producer), as the library has it. */
 size_t tevrulig_producer_size(void);
 
-/* Settings. Refused by 8: a limit over 16,777,216, a count over 128, a name over 64 bytes. */
+/* Settings. Refused by 8: a limit over 16,777,216, a count over 128, a headroom over 65,536, a name over 64 bytes. */
 uint32_t tevrulig_set_max_message_size(struct tevrulig_producer *producer, size_t limit);
 uint32_t tevrulig_set_max_batch_size_bytes(struct tevrulig_producer *producer, size_t limit);
 uint32_t tevrulig_set_max_messages_in_batch(struct tevrulig_producer *producer, size_t limit);
+/* The headroom: what a chunk leaves of the message limit for its command and metadata, if the limit exceeds four times that. 1,024 at first. */
+uint32_t tevrulig_set_metadata_reservation(struct tevrulig_producer *producer, size_t bytes);
 uint32_t tevrulig_set_name(struct tevrulig_producer *producer, const uint8_t *name, size_t name_len);
 
 /* Settings that are never refused: they answer 0. */
@@ -396,6 +399,8 @@ struct tevrulig_optional_u64 tevrulig_next_batch_deadline(const struct tevrulig_
 uint8_t tevrulig_batch_deadline_elapsed(const struct tevrulig_producer *producer, uint64_t now);
 uint8_t tevrulig_can_add_to_batch(const struct tevrulig_producer *producer, size_t payload_size, int32_t num_messages);
 size_t tevrulig_outbound_len(const struct tevrulig_producer *producer);
+/* The headroom that is set. */
+size_t tevrulig_metadata_reservation(const struct tevrulig_producer *producer);
 struct tevrulig_stats tevrulig_stats(const struct tevrulig_producer *producer);
 
 /* ---- values that a caller makes often ---- */

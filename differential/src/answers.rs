@@ -41,6 +41,8 @@ pub enum Answer {
     Done,
     Batched,
     Emit(u64),
+    /// `Emit` of a message that was cut as document 02 says, at a headroom that the Rust has not.
+    Cut(u64),
     Count(u64),
     Yes(bool),
     Deadline(Option<u64>),
@@ -91,7 +93,8 @@ pub fn room(operation: &Operation) -> u64 {
         Operation::QueueSendReserved(_) | Operation::QueueSend(_) => 16,
         Operation::FlushBatch { .. }
         | Operation::ReplayPendingOutbound
-        | Operation::OutboundLen => 8,
+        | Operation::OutboundLen
+        | Operation::MetadataReservation => 8,
         Operation::NextOutboundFrame { buffer, .. } => buffer.saturating_add(8 + 82 + 3291),
         Operation::ApplyReceipt { .. } => 28 + ENTRY,
         Operation::ApplySendError { .. } => 4 + ENTRY,
@@ -112,6 +115,7 @@ pub fn room(operation: &Operation) -> u64 {
         | Operation::SetMaxMessageSize(_)
         | Operation::SetMaxBatchSizeBytes(_)
         | Operation::SetMaxMessagesInBatch(_)
+        | Operation::SetMetadataReservation(_)
         | Operation::SetBatchingEnabled(_)
         | Operation::SetChunkingEnabled(_)
         | Operation::SetSendTimeout(_)
@@ -168,7 +172,7 @@ impl<'a> Answers<'a> {
         match answer {
             Answer::Refused(_) | Answer::TooLarge { .. } | Answer::Done => {}
             Answer::Batched => self.u8(0),
-            Answer::Emit(count) => {
+            Answer::Emit(count) | Answer::Cut(count) => {
                 self.u8(1);
                 self.u64(*count);
             }

@@ -23,6 +23,10 @@ const HELD: u64 = 512;
 const PENDING: u64 = 256;
 /// 8: the highest batch count.
 const BATCH_COUNT: u64 = 128;
+/// 8: the largest headroom (document 02, K6).
+const LARGEST_HEADROOM: u64 = 65_536;
+/// A new producer's headroom; the Rust has no other.
+pub const HEADROOM: u64 = 1_024;
 
 /// What a send depends on.
 #[derive(Debug, Clone, Copy)]
@@ -31,6 +35,7 @@ pub struct Standing {
     pub batching: bool,
     pub chunking: bool,
     pub max_message_size: u64,
+    pub headroom: u64,
     pub max_batch_size: u64,
     pub max_batch_count: u64,
     pub batch_count: u64,
@@ -100,7 +105,7 @@ pub fn plan(standing: &Standing, message: &Message) -> Plan {
                 || size + length >= standing.max_batch_size,
         }
     } else if over {
-        let size = chunk_size(standing.max_message_size);
+        let size = chunk_size(standing.max_message_size, standing.headroom);
         Way::Chunks {
             size,
             count: chunk_count(length, size),
@@ -111,9 +116,13 @@ pub fn plan(standing: &Standing, message: &Message) -> Plan {
     Plan { flush_before, way }
 }
 
-/// Section "sends": chunk payload size (`emit_chunked`).
-pub fn chunk_size(limit: u64) -> u64 {
-    if limit > 4_096 { limit - 1_024 } else { limit }
+/// Document 02, K6: chunk payload size, the limit less the headroom if the limit exceeds four times the headroom, else the limit.
+pub fn chunk_size(limit: u64, headroom: u64) -> u64 {
+    if limit > 4 * headroom {
+        limit - headroom
+    } else {
+        limit
+    }
 }
 
 /// Section "sends": chunk count (`compute_total_chunks`, decision 17).
@@ -229,6 +238,11 @@ pub fn byte_limit(bytes: u64) -> Option<u8> {
 /// 8 for the batch count.
 pub fn batch_count(count: u64) -> Option<u8> {
     (count > BATCH_COUNT).then_some(8)
+}
+
+/// 8 for the headroom.
+pub fn headroom(bytes: u64) -> Option<u8> {
+    (bytes > LARGEST_HEADROOM).then_some(8)
 }
 
 /// 8 for the producer's name.

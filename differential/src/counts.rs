@@ -49,8 +49,8 @@ impl Counts {
         }
     }
 
-    /// What a run must have met and has not: an operation carried out, or a refusal that
-    /// document 01 gives to an operation.
+    /// What a run must have met and has not: an operation carried out, a refusal that
+    /// document 01 gives to an operation, or a send in chunks at a headroom that the Rust has not.
     pub fn missing(&self) -> Vec<String> {
         let mut missing = Vec::new();
         for (code, name) in CODES {
@@ -61,6 +61,9 @@ impl Counts {
                 if !self.refusals.contains_key(&(code, *number)) {
                     missing.push(format!("{name} was never refused by {number}"));
                 }
+            }
+            if matches!(code, 0x01 | 0x02) && !self.answers.contains_key(&(code, CUT)) {
+                missing.push(format!("{name} never cut a message at another headroom"));
             }
         }
         missing
@@ -75,6 +78,9 @@ impl Counts {
     }
 }
 
+/// What a send answers that the Rust cannot judge.
+const CUT: &str = "Emit at another headroom";
+
 /// Document 01, "Who can cause a refusal": the numbers that can refuse an operation.
 fn refusals_of(code: u8) -> &'static [u8] {
     match code {
@@ -86,7 +92,7 @@ fn refusals_of(code: u8) -> &'static [u8] {
         0x07..=0x09 => &[9],
         0x0A => &[4, 7, 12],
         0x0B => &[4, 7],
-        0x10..=0x13 => &[8],
+        0x10..=0x13 | 0x1A => &[8],
         _ => &[],
     }
 }
@@ -99,6 +105,7 @@ fn kind(answer: &Answer) -> &'static str {
         Answer::Batched => "Batched",
         Answer::Emit(1) => "Emit 1",
         Answer::Emit(_) => "Emit more",
+        Answer::Cut(_) => CUT,
         Answer::Count(0) => "0",
         Answer::Count(_) => "more than 0",
         Answer::Yes(true) => "yes",

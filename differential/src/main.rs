@@ -22,6 +22,7 @@ mod frames;
 mod generate;
 #[cfg(any(feature = "port", test))]
 mod guard;
+mod headroom;
 mod operations;
 mod oracle;
 #[cfg(feature = "port")]

@@ -180,6 +180,7 @@ pub enum Operation {
     SetBatchingMaxPublishDelay(Option<u64>),
     SetBrokerReady(bool),
     Close,
+    SetMetadataReservation(u64),
     NextSendDeadline,
     NextBatchDeadline,
     BatchDeadlineElapsed {
@@ -192,10 +193,11 @@ pub enum Operation {
     OutboundLen,
     Stats,
     Dump,
+    MetadataReservation,
 }
 
 /// Every operation code of docs/SCRIPT.md with its name.
-pub const CODES: [(u8, &str); 30] = [
+pub const CODES: [(u8, &str); 32] = [
     (0x01, "queue_send_reserved"),
     (0x02, "queue_send"),
     (0x03, "flush_batch"),
@@ -219,6 +221,7 @@ pub const CODES: [(u8, &str); 30] = [
     (0x17, "set batching_max_publish_delay"),
     (0x18, "set broker_ready"),
     (0x19, "close"),
+    (0x1A, "set metadata_reservation"),
     (0x20, "next_send_deadline"),
     (0x21, "next_batch_deadline"),
     (0x22, "batch_deadline_elapsed"),
@@ -226,6 +229,7 @@ pub const CODES: [(u8, &str); 30] = [
     (0x24, "outbound_len"),
     (0x25, "stats"),
     (0x26, "dump"),
+    (0x27, "metadata_reservation"),
 ];
 
 impl Operation {
@@ -254,6 +258,7 @@ impl Operation {
             Self::SetBatchingMaxPublishDelay(_) => 0x17,
             Self::SetBrokerReady(_) => 0x18,
             Self::Close => 0x19,
+            Self::SetMetadataReservation(_) => 0x1A,
             Self::NextSendDeadline => 0x20,
             Self::NextBatchDeadline => 0x21,
             Self::BatchDeadlineElapsed { .. } => 0x22,
@@ -261,6 +266,7 @@ impl Operation {
             Self::OutboundLen => 0x24,
             Self::Stats => 0x25,
             Self::Dump => 0x26,
+            Self::MetadataReservation => 0x27,
         }
     }
 }

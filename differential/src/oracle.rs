@@ -46,6 +46,8 @@ pub struct Oracle {
     /// The Rust's instant for clock 0.
     pub(crate) start: Instant,
     pub(crate) budget: Arc<MemoryLimitController>,
+    /// What a chunk leaves of the limit (document 02, K6).
+    pub(crate) headroom: u64,
     /// The replay table of the last snapshot, with the Rust's own frames.
     pub(crate) snapshot: Vec<(Entry, Vec<OutboundFrame>)>,
     pub(crate) checks: Checks,
@@ -76,6 +78,7 @@ impl Oracle {
             store: Store::new(store),
             start: Instant::now(),
             budget: MemoryLimitController::new(u64::MAX, MemoryLimitPolicy::FailImmediately),
+            headroom: bounds::HEADROOM,
             snapshot: Vec::new(),
             checks,
         }
@@ -126,6 +129,9 @@ impl Producer for Oracle {
             Operation::SetMaxMessagesInBatch(limit) => unless(bounds::batch_count(*limit), || {
                 self.rust.max_messages_in_batch = *limit as usize;
             }),
+            Operation::SetMetadataReservation(bytes) => unless(bounds::headroom(*bytes), || {
+                self.headroom = *bytes;
+            }),
             Operation::SetBatchingEnabled(on) => set(&mut self.rust.batching_enabled, *on),
             Operation::SetChunkingEnabled(on) => set(&mut self.rust.chunking_enabled, *on),
             Operation::SetSendTimeout(delay) => set(
@@ -160,6 +166,7 @@ impl Producer for Oracle {
             Operation::OutboundLen => Answer::Count(self.rust.outbound_len() as u64),
             Operation::Stats => self.stats(),
             Operation::Dump => Answer::Dump(Box::new(self.dump())),
+            Operation::MetadataReservation => Answer::Count(self.headroom),
         };
         self.assert_same_counts();
         Ok(answer)
@@ -181,7 +188,7 @@ impl Oracle {
         reservation.expect("256 reservations below 2^40 fit into the budget")
     }
 
-    fn producer_name(&self) -> String {
+    pub(crate) fn producer_name(&self) -> String {
         self.rust.name.clone().unwrap_or_default()
     }
 
@@ -192,6 +199,7 @@ impl Oracle {
             batching: self.rust.batching_enabled,
             chunking: self.rust.chunking_enabled,
             max_message_size: self.rust.max_message_size as u64,
+            headroom: self.headroom,
             max_batch_size: self.rust.max_batch_size_bytes as u64,
             max_batch_count: self.rust.max_messages_in_batch as u64,
             batch_count: batch.len() as u64,
@@ -218,6 +226,13 @@ impl Oracle {
         let plan = bounds::plan(&standing, &send.message);
         let message = frames::outgoing(&self.store, &send.message)?;
         let now = self.instant(send.now);
+        if self.headroom != bounds::HEADROOM && matches!(plan.way, Way::Chunks { .. }) {
+            let mut reservation = self.reserve(send.reserved);
+            let answer = self.send_cut(send, plan, message, &mut reservation)?;
+            assert_eq!(reservation.bytes(), 0, "the reservation of a send");
+            self.follow(send, plan, &answer);
+            return Ok(answer);
+        }
         uuid::set_next(send.uuid);
         let decision = if with_reservation {
             let mut reservation = self.reserve(send.reserved);
@@ -256,7 +271,9 @@ impl Oracle {
         let chunks = match (plan.way, answer) {
             (Way::TooLarge, Answer::TooLarge { .. }) => return,
             (Way::Join { .. }, Answer::Batched) | (Way::Single, Answer::Emit(1)) => None,
-            (Way::Chunks { size, count }, Answer::Emit(emitted)) if count == *emitted => {
+            (Way::Chunks { size, count }, Answer::Emit(emitted) | Answer::Cut(emitted))
+                if count == *emitted =>
+            {
                 Some(Chunks {
                     size: size as u32,
                     count: count as u32,

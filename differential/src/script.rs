@@ -260,6 +260,7 @@ impl<'a> Reader<'a> {
             0x17 => Operation::SetBatchingMaxPublishDelay(self.optional(8, Self::u64)?),
             0x18 => Operation::SetBrokerReady(self.bool()?),
             0x19 => Operation::Close,
+            0x1A => Operation::SetMetadataReservation(self.u64()?),
             0x20 => Operation::NextSendDeadline,
             0x21 => Operation::NextBatchDeadline,
             0x22 => Operation::BatchDeadlineElapsed { now: self.u64()? },
@@ -270,6 +271,7 @@ impl<'a> Reader<'a> {
             0x24 => Operation::OutboundLen,
             0x25 => Operation::Stats,
             0x26 => Operation::Dump,
+            0x27 => Operation::MetadataReservation,
             _ => return None,
         })
     }

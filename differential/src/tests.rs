@@ -142,6 +142,32 @@ fn c1_c2_c3_chunks() {
     }
 }
 
+/// Document 02, K6: chunks on both sides of four times the headroom, and the frames that 4 counts.
+#[test]
+fn k6_headrooms() {
+    let cases: [(u64, u64, u64, &[usize]); 6] = [
+        (0, 5, 6, &[5, 1]),
+        (1, 4, 6, &[4, 2]),
+        (1, 5, 6, &[4, 2]),
+        (1_024, 4_097, 4_098, &[3_073, 1_025]),
+        (1_025, 4_100, 4_101, &[4_100, 1]),
+        (1_025, 4_101, 4_102, &[3_076, 1_026]),
+    ];
+    for (headroom, limit, length, wanted) in cases {
+        let mut oracle = producer(&text(length as usize), &chunking(limit));
+        does(&mut oracle, &Operation::SetMetadataReservation(headroom));
+        does(&mut oracle, &send(message(length)));
+        assert_eq!(lengths(&mut oracle), wanted);
+    }
+    let longest = vec![0; 16_777_216];
+    for (headroom, chunks) in [(65_536, 86), (1_024, 65)] {
+        let mut oracle = producer(&longest, &chunking(262_145));
+        does(&mut oracle, &Operation::SetMetadataReservation(headroom));
+        let answer = does(&mut oracle, &send(message(16_777_216)));
+        assert!(matches!(answer, Answer::Emit(count) | Answer::Cut(count) if count == chunks));
+    }
+}
+
 #[test]
 fn c4_a_thousand_chunks() {
     let mut oracle = producer(&text(5_121), &chunking(5));

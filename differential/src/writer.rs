@@ -76,6 +76,7 @@ impl Script {
             | Operation::SetMaxMessageSize(number)
             | Operation::SetMaxBatchSizeBytes(number)
             | Operation::SetMaxMessagesInBatch(number)
+            | Operation::SetMetadataReservation(number)
             | Operation::BatchDeadlineElapsed { now: number } => self.u64(*number),
             Operation::SetBatchingEnabled(on)
             | Operation::SetChunkingEnabled(on)
@@ -96,7 +97,8 @@ impl Script {
             | Operation::NextBatchDeadline
             | Operation::OutboundLen
             | Operation::Stats
-            | Operation::Dump => {}
+            | Operation::Dump
+            | Operation::MetadataReservation => {}
         }
     }
 

@@ -1,5 +1,6 @@
-// The cases of document 01, executed: each line is a case's name and what the code answers. The file `stdout` has the
-// answers of the document. The cases that it marks with a star are proved besides, in specs/Rows.antt of crate `queue`.
+// The cases of document 01 and of document 02's headroom, executed: each line is a case's name and what the code answers. The file
+// `stdout` has the answers of the documents. The cases that document 01 marks with a star are proved besides, in specs/Rows.antt of
+// crate `queue`.
 #![tactic(auto)]
 
 mod sends;
@@ -121,6 +122,8 @@ fn main(rt: HostRuntime) -> io::Result<()> {
     quote(&rt)?;
     sends::joins_and_is_flushed(&rt)?;
     sends::as_many_chunks_as_frames(&rt)?;
+    sends::chunks_under_a_headroom(&rt)?;
+    sends::frames_counted_under_a_headroom(&rt)?;
     published(&rt)?;
     refusals(&rt)
 }

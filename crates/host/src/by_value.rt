@@ -193,6 +193,7 @@ fn put_asked(s: &ProducerState, task: Task, out: &mut Output)
             s.can_add_to_batch(task.arguments.get(), task.arguments.behind(8).get()),
         ),
         Call::OutboundLen => put_done(out, call, s.outbound_len()),
+        Call::MetadataReservation => put_done(out, call, s.metadata_reservation()),
         _ => put_done(out, call, s.stats()),
     }
 }

@@ -56,6 +56,7 @@ pub(crate) fn carry_out<D: Drive>(d: &mut D, last: &mut Table, task: Task, out: 
         Call::SetMaxMessageSize
         | Call::SetMaxBatchSizeBytes
         | Call::SetMaxMessagesInBatch
+        | Call::SetMetadataReservation
         | Call::SetBatchingEnabled
         | Call::SetChunkingEnabled
         | Call::SetSendTimeout
@@ -74,6 +75,7 @@ pub(crate) fn carry_out<D: Drive>(d: &mut D, last: &mut Table, task: Task, out: 
         | Call::BatchDeadlineElapsed
         | Call::CanAddToBatch
         | Call::OutboundLen
+        | Call::MetadataReservation
         | Call::Stats => d.put_asked(task, out),
     }
 }

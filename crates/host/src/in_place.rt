@@ -140,6 +140,7 @@ impl Drive for InPlace {
                     .may_add(task.arguments.get(), task.arguments.behind(8).get()),
             ),
             Call::OutboundLen => put_done(out, call, self.state.waiting_count()),
+            Call::MetadataReservation => put_done(out, call, self.state.headroom()),
             _ => put_done(out, call, self.state.statistics()),
         }
     }

@@ -56,6 +56,7 @@ impl<'a> Task<'a> {
             Call::SetMaxMessageSize => Setting::MaxMessageSize(value.get()),
             Call::SetMaxBatchSizeBytes => Setting::MaxBatchSizeBytes(value.get()),
             Call::SetMaxMessagesInBatch => Setting::MaxMessagesInBatch(value.get()),
+            Call::SetMetadataReservation => Setting::MetadataReservation(value.get()),
             Call::SetBatchingEnabled => Setting::BatchingEnabled(value.get()),
             Call::SetChunkingEnabled => Setting::ChunkingEnabled(value.get()),
             Call::SetSendTimeout => Setting::SendTimeout(value.get()),

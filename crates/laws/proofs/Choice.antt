@@ -17,6 +17,11 @@ pub pick_ind : {A : Type 0} (P : A → Type 0) (b : Bool) (x y : A) → (b ≡ t
 pick_ind P true x y f g = f refl
 pick_ind P false x y f g = g refl
 
+-- what is made of both values is made of the one chosen
+pub pick_through : {A B : Type 0} (f : A → B) (b : Bool) (x y : A) (u v : B) → u ≡ f x → v ≡ f y → pick b u v ≡ f (pick b x y)
+pick_through f true x y u v e g = e
+pick_through f false x y u v e g = g
+
 -- values that differ, by `cc`
 pub differ : {P : Type 0} → ◌≡◌ {A = ℕ} 0 1 → P
 differ h = absurd (omega arith)

@@ -60,7 +60,7 @@ impl Core {
                 after: self.is_full(count, size),
             }
         } else if large {
-            let cut = cut_of(m.payload.len, self.settings.limits.max_message_size);
+            let cut = cut_of(m.payload.len, self.settings.limits);
             Way::Chunked {
                 before,
                 max_chunk_size: cut.max_chunk_size,

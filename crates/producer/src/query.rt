@@ -1,7 +1,7 @@
 // What can be asked of a producer.
 ghost use Rattle.std.specs.Prelude.{[]};
 ghost use Rattle.queue.specs.Queue.{done};
-ghost use Rattle.queue.specs.Run.{query, send_deadline, batch_deadline, batch_elapsed, can_add, waiting_count, statistics};
+ghost use Rattle.queue.specs.Run.{query, send_deadline, batch_deadline, batch_elapsed, can_add, waiting_count, headroom, statistics};
 ghost use Rattle.producer.specs.Meets.{Meets};
 
 use crate::state::ProducerState;
@@ -46,6 +46,13 @@ impl ProducerState {
         outbound_len_of(self.core.rings.decode())
     }
 
+    // What the command and metadata of a chunk may take of the message limit.
+    pub fn headroom(&self) -> usize
+        ensures { Meets [] (query headroom) self.now self.now (done result) }
+    {
+        self.core.settings.limits.metadata_reservation
+    }
+
     pub fn statistics(&self) -> ProducerStats
         ensures { Meets [] (query statistics) self.now self.now (done result) }
     {
@@ -82,6 +89,12 @@ impl ProducerState {
         ensures { Meets [] (query waiting_count) self self (done result) }
     {
         self.waiting_count()
+    }
+
+    pub fn metadata_reservation(self) -> usize
+        ensures { Meets [] (query headroom) self self (done result) }
+    {
+        self.headroom()
     }
 
     pub fn stats(self) -> ProducerStats

@@ -1,4 +1,4 @@
--- How a message is cut: with a limit of at least 1 its chunks fill it, and none is longer than the limit.
+-- How a message is cut: with a limit of at least 1 its chunks fill it, and none is longer than the size.
 use Prim.Native.Nat.{ℕ, zero, suc, ◌+◌, ◌-◌, ◌*◌, ◌/◌, ◌%◌, ◌≤◌, ◌<◌, min, max}
 use mathlib.Core.Path.{◌≡◌, refl, sym, ◌∙◌}
 use mathlib.Core.List.{List, append-nil}
@@ -21,11 +21,9 @@ use Rattle.queue.specs.Chunks.{Numbered, payloads, Chunks}
 use Rattle.laws.proofs.Choice.{pick_ind}
 use Rattle.queue.proofs.Reading.{chunk_run, from_first, Cut}
 
-pub size_some : (limit : ℕ) → 1 ≤ limit → 1 ≤ chunk_size limit
-size_some limit h = pick_ind (λ n. 1 ≤ n) (ltb 4096 limit) _ _ (λ e. omega (arith, ltb-true 4096 limit e)) (λ e. omega arith)
-
-pub size_within : (limit : ℕ) → chunk_size limit ≤ limit
-size_within limit = pick_ind (λ n. n ≤ limit) (ltb 4096 limit) _ _ (λ e. omega arith) (λ e. omega arith)
+pub size_some : (headroom limit : ℕ) → 1 ≤ limit → 1 ≤ chunk_size headroom limit
+size_some headroom limit h =
+    pick_ind (λ n. 1 ≤ n) (ltb (4 * headroom) limit) _ _ (λ e. omega (arith, ltb-true (4 * headroom) limit e)) (λ e. omega arith)
 
 -- a quotient that is rounded up, and what is left over
 module _ (len size : ℕ) (h : 1 ≤ size) where
@@ -74,13 +72,13 @@ module _ (len size : ℕ) (h : 1 ≤ size) where
 -- ── the chunks as frames ──
 
 module _ (store : List ℕ) (handle : ProducerHandle) (r : FrameRecord) where
-  numbered : (limit n : ℕ) (c : ChunkedMessageContext) → c.max_chunk_size ≤ limit → c.next_chunk + n ≡ c.total_chunks
-      → Numbered r.sequence_id limit c.total_chunks c.next_chunk (chunk_run store handle r c n)
+  numbered : (n : ℕ) (c : ChunkedMessageContext) → c.next_chunk + n ≡ c.total_chunks
+      → Numbered r.sequence_id c.max_chunk_size c.total_chunks c.next_chunk (chunk_run store handle r c n)
   unfolding chunk_run
-  numbered limit zero c size e = omega arith
-  numbered limit (suc n) c size e =
-      let short : length (part_of store (chunk_part r c)) ≤ limit = rw length-take (omega arith) in
-      (refl, refl, refl, short, numbered limit n (next_chunk c) size (omega arith))
+  numbered zero c e = omega arith
+  numbered (suc n) c e =
+      let short : length (part_of store (chunk_part r c)) ≤ c.max_chunk_size = rw length-take (omega arith) in
+      (refl, refl, refl, short, numbered n (next_chunk c) (omega arith))
 
   -- what is left of the payload from a chunk on
   joins : (n : ℕ) (c : ChunkedMessageContext) → Cut r.message.payload.len c.max_chunk_size c.total_chunks
@@ -115,16 +113,16 @@ module _ (store : List ℕ) (handle : ProducerHandle) (r : FrameRecord) where
         rest,
       )
 
-  pub chunks_cut : (limit size count : ℕ) → size ≤ limit → Cut r.message.payload.len size count → 1 ≤ count
-      → Chunks limit (part_of store r.message.payload) (chunk_run store handle r (from_first size count) count)
-  chunks_cut limit size zero low cut any = absurd (omega arith)
-  chunks_cut limit size (suc n) low cut any =
+  pub chunks_cut : (size count : ℕ) → Cut r.message.payload.len size count → 1 ≤ count
+      → Chunks size (part_of store r.message.payload) (chunk_run store handle r (from_first size count) count)
+  chunks_cut size zero cut any = absurd (omega arith)
+  chunks_cut size (suc n) cut any =
       let p = r.message.payload in
       let zero-at : p.start + 0 * size ≡ p.start = omega arith in
       let whole : p.len - 0 * size ≡ p.len = omega arith in
       record {
         id = r.sequence_id;
         count = suc n;
-        numbered = numbered limit (suc n) (from_first size (suc n)) low (omega arith);
+        numbered = numbered (suc n) (from_first size (suc n)) (omega arith);
         joins = rw (zero-at, whole) at (joins n (from_first size (suc n)) cut (omega arith));
       }

@@ -199,6 +199,7 @@ limit_kept : (s : Setting) (t : ProducerSettings) → t.limits.max_messages_in_b
 limit_kept (setting.MaxMessageSize n) t h e = h
 limit_kept (setting.MaxBatchSizeBytes n) t h e = h
 limit_kept (setting.MaxMessagesInBatch n) t h e = leb-true n 128 e
+limit_kept (setting.MetadataReservation n) t h e = h
 limit_kept (setting.BatchingEnabled b) t h e = h
 limit_kept (setting.ChunkingEnabled b) t h e = h
 limit_kept (setting.SendTimeout d) t h e = h

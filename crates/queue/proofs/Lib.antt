@@ -14,6 +14,7 @@ pub mod Steps
 pub mod Takes
 pub mod Order
 pub mod Document
+pub mod Headroom
 pub mod Example
 pub mod Emptied
 pub mod Restore

@@ -18,7 +18,7 @@ use Rattle.types.specs.declared.way.Way.{Way}
 use Rattle.wire.specs.Batch.{All, WithinBounds}
 use Rattle.queue.specs.Queue.{Queue, Outgoing, Outcome, done}
 use Rattle.queue.specs.Batch.{batchable, can_add_to_batch, may_join, is_empty, is_full, same_txn, single_of, at_least_one, flushed}
-use Rattle.queue.specs.Send.{Sending, emitted, large, chunk_size, total_chunks, other_txn, in_the_way, flushes_before, left_of, way_into, message_in, one, go, add_to_batch, emit_single, emit_chunked, flush_if, follow, carried_out, queue_send}
+use Rattle.queue.specs.Send.{Sending, emitted, large, chunk_size_of, total_chunks, other_txn, in_the_way, flushes_before, left_of, way_into, message_in, one, go, add_to_batch, emit_single, emit_chunked, flush_if, follow, carried_out, queue_send}
 use Rattle.queue.specs.Frame.{Frame, single_frame, single_in}
 use Rattle.queue.specs.Message.{Message, message_of}
 use Rattle.queue.specs.Run.{Call, send, Ranged, Gives, frame_of, accepted_by}
@@ -32,7 +32,7 @@ use Rattle.queue.proofs.Reached.{Passed, send_cases}
 use Rattle.queue.proofs.Entries.{some_chunk}
 use Rattle.queue.proofs.Reading.{chunk_run, run_length, from_first, Cut}
 use Rattle.queue.proofs.Groups.{Kept, all_append}
-use Rattle.queue.proofs.Chunking.{size_some, size_within, cut_holds, chunks_cut}
+use Rattle.queue.proofs.Chunking.{size_some, cut_holds, chunks_cut}
 use Rattle.queue.proofs.Sends.{Holds, Grows, flush_holds, single_holds, chunks_hold, join_holds}
 use Rattle.types.specs.declared.txn.TxnId.{TxnId}
 
@@ -189,6 +189,7 @@ module _ (store : List ℕ) (q : Queue) (took : List Frame) (acc : List Message)
         let m = a.message in
         let t = q.settings in
         let limit = t.limits.max_message_size in
+        let headroom = t.limits.metadata_reservation in
         let time = a.publish_time in
         let b = left_of t m before q.out.batch in
         let p = flush_if before time q in
@@ -219,14 +220,14 @@ module _ (store : List ℕ) (q : Queue) (took : List Frame) (acc : List Message)
         let room : q.out.waiting + one before ≤ outbound_size = omega (arith, r.frames) in
         let g = h room in
         let x = f room in
-        let size = chunk_size limit in
+        let size = chunk_size_of t.limits in
         let count = total_chunks m.payload.len size in
-        let cut = cut_holds m.payload.len size (size_some limit covered) s.bounds.payload in
+        let cut = cut_holds m.payload.len size (size_some headroom limit covered) s.bounds.payload in
         let any = some_chunk m.payload.len size in
         let c = chunked_record p a size count in
         let own = chunk_run store p.handle c (from_first size count) count in
         let made : Cuts store t (send a) (done (emitted (length own))) own =
-        one_cut y (chunking_on (large t m) t.switches.chunking_enabled within y) (chunks_cut store p.handle c limit size count (size_within limit) cut any) in
+        one_cut y (chunking_on (large t m) t.switches.chunking_enabled within y) (chunks_cut store p.handle c size count cut any) in
         record {
           flushes = g.more;
           own = own;

@@ -6,17 +6,17 @@ use Rattle.types.specs.declared.types.ProducerHandle.{ProducerHandle}
 use Rattle.types.specs.declared.types.SequenceId.{SequenceId}
 use Rattle.wire.specs.Batch.{All}
 use Rattle.queue.specs.Queue.{Queue, Answer, done, new_queue}
-use Rattle.queue.specs.Send.{Sending, emitted, large}
+use Rattle.queue.specs.Send.{Sending, chunk_size_of, emitted, large}
 use Rattle.queue.specs.Frame.{Frame}
 use Rattle.queue.specs.Run.{Call, send, Gives, step, after, frame_of, taken, Waiting, AllRanged}
 use Rattle.queue.specs.Order.{AllCovered}
 
--- chunk k and those after it, of n, of one sequence id, none longer than the limit
+-- chunk k and those after it, of n, of one sequence id, none longer than `most`
 abbrev pub Numbered : SequenceId → ℕ → ℕ → ℕ → List Frame → Type 0
-Numbered id limit n k [] = k ≡ n
-Numbered id limit n k (f ∷ fs) =
-    (f.metadata.sequence_id ≡ id) × (f.metadata.chunk_id ≡ Some k) × (f.metadata.num_chunks ≡ Some n) × (length f.payload ≤ limit)
-    × Numbered id limit n (k + 1) fs
+Numbered id most n k [] = k ≡ n
+Numbered id most n k (f ∷ fs) =
+    (f.metadata.sequence_id ≡ id) × (f.metadata.chunk_id ≡ Some k) × (f.metadata.num_chunks ≡ Some n) × (length f.payload ≤ most)
+    × Numbered id most n (k + 1) fs
 
 -- the payloads joined
 abbrev pub payloads : List Frame → List ℕ
@@ -24,10 +24,10 @@ payloads [] = []
 payloads (f ∷ fs) = f.payload ++ payloads fs
 
 -- all the chunks of a payload, from chunk 0 on
-pub record Chunks (limit : ℕ) (payload : List ℕ) (fs : List Frame) : Type 0 where
+pub record Chunks (most : ℕ) (payload : List ℕ) (fs : List Frame) : Type 0 where
   pub id : SequenceId
   pub count : ℕ
-  pub numbered : Numbered id limit count 0 fs
+  pub numbered : Numbered id most count 0 fs
   pub joins : payloads fs ≡ payload
 
 -- a message's only frame: its whole payload, and neither message count nor chunk id in the metadata ('sends')
@@ -54,9 +54,10 @@ pub data Cuts (store : List ℕ) (t : ProducerSettings) : (c : Call) → Answer 
   -- 'payload equal to `max_message_size` is not too large': a single frame
   not_cut : {a : Sending} {f : Frame} → large t a.message ≡ false → Whole (part_of store a.message.payload) f
       → Cuts store t (send a) (done (emitted 1)) (f ∷ [])
-  -- above it: 'with chunking on it joins the batch if it can .. else it is chunked'
+  -- above it: 'with chunking on it joins the batch if it can .. else it is chunked', by the headroom set at the send (document 02, K6); no size
+  -- that it gives is over the limit (`WithinLimit`)
   one_cut : {a : Sending} {fs : List Frame} → large t a.message ≡ true → t.switches.chunking_enabled ≡ true
-      → Chunks t.limits.max_message_size (part_of store a.message.payload) fs
+      → Chunks (chunk_size_of t.limits) (part_of store a.message.payload) fs
       → Cuts store t (send a) (done (emitted (length fs))) fs
 
 -- the frames of a run, call by call: each call appends the batch frames that it flushes, and then those of the message that it sends

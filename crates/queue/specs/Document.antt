@@ -11,7 +11,7 @@ use Rattle.types.specs.declared.stats.Counters.{Counters}
 use Rattle.types.specs.declared.way.Way.{Way}
 use Rattle.queue.specs.Queue.{Queue}
 use Rattle.queue.specs.Batch.{may_join, is_full}
-use Rattle.queue.specs.Send.{Sending, large, chunk_size, total_chunks, other_txn, in_the_way, left_of, way_into, way_of, add_to_batch, emit_single, emit_chunked, flush_if, follow}
+use Rattle.queue.specs.Send.{Sending, large, chunk_size_of, total_chunks, other_txn, in_the_way, left_of, way_into, way_of, add_to_batch, emit_single, emit_chunked, flush_if, follow}
 use Rattle.queue.specs.Tables.{failed}
 
 -- ── the way of a message, in two steps ('sends') ──
@@ -51,7 +51,7 @@ module _ (a : Sending) (q : Queue) where
   by_size p =
       let t = q.settings in
       let m = a.message in
-      let size = chunk_size t.limits.max_message_size in
+      let size = chunk_size_of t.limits in
       pick (large t m && not t.switches.chunking_enabled) p
       (pick (may_join t p.out.batch m) (full_flushed (add_to_batch a p))
       (pick (large t m) (emit_chunked a size (total_chunks m.payload.len size) p)

@@ -18,6 +18,7 @@ pub mod Reachable
 pub mod Chunks
 pub mod Restore
 pub mod Document
+pub mod Headroom
 pub mod Told
 pub mod Rows
 pub mod Values

@@ -12,5 +12,9 @@ may_add size num_messages q = can_add_to_batch q.settings q.out.batch size num_m
 abbrev pub outbound_len : Queue → ℕ
 outbound_len q = q.out.waiting
 
+-- the headroom that is set (document 02, K6)
+abbrev pub metadata_reservation : Queue → ℕ
+metadata_reservation q = q.settings.limits.metadata_reservation
+
 abbrev pub stats : Queue → ProducerStats
 stats q = record { counters = q.counters; pending_queue_size = length q.pending }

@@ -32,12 +32,17 @@ pub record Queue : Type 0 where
 
 -- ── a new producer ──
 
--- the Rust's defaults, but for the batch count of 128 (refusal 8)
+-- the Rust's defaults, but for the batch count of 128 (refusal 8); the headroom is the Rust's constant (document 02, K6)
 abbrev pub new_settings : ProducerSettings
 new_settings =
     record {
       name = empty_name;
-      limits = record { max_message_size = 5242880; max_batch_size_bytes = 131072; max_messages_in_batch = longest_batch };
+      limits = record {
+        max_message_size = 5242880;
+        max_batch_size_bytes = 131072;
+        max_messages_in_batch = longest_batch;
+        metadata_reservation = 1024;
+      };
       switches = record { batching_enabled = false; chunking_enabled = false; broker_ready = false; closed = false };
       delays = record { send_timeout = None; batching_max_publish_delay = None };
     }

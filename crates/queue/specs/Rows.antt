@@ -1,21 +1,22 @@
--- The cases that document 01 marks with a star: what the definitions compute, and what the document says.
+-- The cases that document 01 marks with a star, and those of document 02's headroom (K6): what the definitions compute, and what the documents say.
 use Rattle.std.specs.Prelude.{ℕ, ◌-◌, ◌^◌, true, List, [], ◌∷◌, ◌++◌, length, map, replicate, ℤ, pos, negsuc, None, Option, Some}
 use Rattle.types.specs.Time.{deadline_with_clamp}
 use Rattle.types.specs.Ids.{of_receipt}
 use Rattle.types.specs.declared.batch.BatchContainer.{BatchContainer}
-use Rattle.types.specs.declared.settings.Setting.TheVariants.{MaxMessageSize, BatchingEnabled, ChunkingEnabled}
+use Rattle.types.specs.declared.settings.Setting.TheVariants.{MaxMessageSize, MetadataReservation, BatchingEnabled, ChunkingEnabled}
 use Rattle.types.specs.declared.stats.SequenceIds.{SequenceIds}
 use Rattle.types.specs.declared.types.MessageId.{MessageId}
 use Rattle.types.specs.declared.types.SequenceId.{SequenceId}
 use Rattle.queue.specs.Queue.{Queue, Answer, done, new_queue}
 use Rattle.queue.specs.Ids.{set_initial_sequence_id}
 use Rattle.queue.specs.Batch.{no_message, no_uuid}
-use Rattle.queue.specs.Send.{Sending, Decision, emitted, queue_send}
+use Rattle.queue.specs.Send.{Sending, Decision, chunk_size, total_chunks, emitted, queue_send}
 use Rattle.queue.specs.Frame.{Frame}
 use Rattle.queue.specs.Run.{Call, send, flush, take, initial_id, set, after, taken}
 
 pub data Value : Type 0 where
   number : ℕ → Value
+  numbers : List ℕ → Value
   message_id : MessageId → Value
   sequence_ids : SequenceIds → Value
   answer : Answer Decision → Value
@@ -85,19 +86,26 @@ module _ (first n : ℕ) where
   abbrev batch_frames : List Frame
   batch_frames = frames quote (joining ++ flush 0 ∷ [])
 
--- a send of `len` bytes under a limit, with chunking on: its answer, and the frames
-module _ (limit len : ℕ) where
+-- a send of `len` bytes under a limit, with chunking on and after other settings: its answer, and the frames
+module _ (before : List Call) (limit len : ℕ) where
   abbrev store : List ℕ
   store = replicate len 0
 
   abbrev chunking : List Call
-  chunking = set (ChunkingEnabled true) ∷ set (MaxMessageSize limit) ∷ []
+  chunking = before ++ set (ChunkingEnabled true) ∷ set (MaxMessageSize limit) ∷ []
 
   abbrev chunk_answer : Answer Decision
   chunk_answer = (queue_send len (send_of len) (after store fresh chunking)).1
 
   abbrev chunk_frames : List Frame
   chunk_frames = frames store (chunking ++ send (send_of len) ∷ [])
+
+abbrev headroom : ℕ → List Call
+headroom n = set (MetadataReservation n) ∷ []
+
+-- what a chunk may have under each limit
+abbrev sizes_at : ℕ → List ℕ → Value
+sizes_at n limits = numbers (map (chunk_size n) limits)
 
 -- ── what is seen of them ──
 
@@ -155,13 +163,26 @@ rows =
     ∷ row (command_ids (batch_frames (2 ^ 64 - 1) 2)) (id_ranges ((sequence_id (2 ^ 64 - 1), None) ∷ []))
     ∷ row (metadata_ids (batch_frames (2 ^ 64 - 1) 2)) (id_ranges ((sequence_id (2 ^ 64 - 1), None) ∷ []))
     -- C1: the send's answer, and its chunks
-    ∷ row (answer (chunk_answer 4096 4097)) (answer (done (emitted 2)))
-    ∷ row (lengths_of (chunk_frames 4096 4097)) (lengths (4096 ∷ 1 ∷ []))
+    ∷ row (answer (chunk_answer [] 4096 4097)) (answer (done (emitted 2)))
+    ∷ row (lengths_of (chunk_frames [] 4096 4097)) (lengths (4096 ∷ 1 ∷ []))
     -- C2
-    ∷ row (answer (chunk_answer 4097 4098)) (answer (done (emitted 2)))
-    ∷ row (lengths_of (chunk_frames 4097 4098)) (lengths (3073 ∷ 1025 ∷ []))
+    ∷ row (answer (chunk_answer [] 4097 4098)) (answer (done (emitted 2)))
+    ∷ row (lengths_of (chunk_frames [] 4097 4098)) (lengths (3073 ∷ 1025 ∷ []))
     -- C3: one chunk, empty, and its total size
-    ∷ row (answer (chunk_answer 0 3)) (answer (done (emitted 1)))
-    ∷ row (lengths_of (chunk_frames 0 3)) (lengths (0 ∷ []))
-    ∷ row (total_sizes (chunk_frames 0 3)) (sizes (Some 3 ∷ []))
+    ∷ row (answer (chunk_answer [] 0 3)) (answer (done (emitted 1)))
+    ∷ row (lengths_of (chunk_frames [] 0 3)) (lengths (0 ∷ []))
+    ∷ row (total_sizes (chunk_frames [] 0 3)) (sizes (Some 3 ∷ []))
+    -- K6: on both sides of four times the headroom, and at a limit of 0
+    ∷ row (sizes_at 0 (0 ∷ 1 ∷ 5 ∷ [])) (numbers (0 ∷ 1 ∷ 5 ∷ []))
+    ∷ row (sizes_at 1 (0 ∷ 4 ∷ 5 ∷ [])) (numbers (0 ∷ 4 ∷ 4 ∷ []))
+    ∷ row (sizes_at 1024 (0 ∷ 4096 ∷ 4097 ∷ [])) (numbers (0 ∷ 4096 ∷ 3073 ∷ []))
+    ∷ row (sizes_at 65536 (0 ∷ 262144 ∷ 262145 ∷ [])) (numbers (0 ∷ 262144 ∷ 196609 ∷ []))
+    -- K6: sends of 6 bytes, and one that a headroom of 1,025 no longer makes smaller than the limit
+    ∷ row (lengths_of (chunk_frames (headroom 0) 5 6)) (lengths (5 ∷ 1 ∷ []))
+    ∷ row (lengths_of (chunk_frames (headroom 1) 4 6)) (lengths (4 ∷ 2 ∷ []))
+    ∷ row (lengths_of (chunk_frames (headroom 1) 5 6)) (lengths (4 ∷ 2 ∷ []))
+    ∷ row (lengths_of (chunk_frames (headroom 1025) 4097 4098)) (lengths (4097 ∷ 1 ∷ []))
+    -- K6: the longest payload under a limit of 262,145
+    ∷ row (number (total_chunks 16777216 (chunk_size 65536 262145))) (number 86)
+    ∷ row (number (total_chunks 16777216 (chunk_size 1024 262145))) (number 65)
     ∷ []

@@ -13,7 +13,7 @@ use Rattle.queue.specs.Frame.{Frame}
 use Rattle.queue.specs.Take.{next_outbound_frame}
 use Rattle.queue.specs.Settle.{Handed, apply_receipt, apply_send_error, drain_timed_out_sends}
 use Rattle.queue.specs.Tables.{drain_pending_sends, snapshot_pending_sends, replay_snapshots, replay_pending_outbound}
-use Rattle.queue.specs.Queries.{may_add, outbound_len, stats}
+use Rattle.queue.specs.Queries.{may_add, outbound_len, metadata_reservation, stats}
 use Rattle.queue.specs.Message.{Message, message_of}
 use Rattle.types.specs.declared.types.MessageIdData.{MessageIdData}
 
@@ -28,6 +28,7 @@ pub data Query : Type 0 where
   -- for a payload length and a message count
   can_add : ℕ → ℤ → Query
   waiting_count : Query
+  headroom : Query
   statistics : Query
 
 pub data Call : Type 0 where
@@ -63,6 +64,7 @@ Asked batch_deadline = Option ℕ
 Asked (batch_elapsed now) = Bool
 Asked (can_add size num_messages) = Bool
 Asked waiting_count = ℕ
+Asked headroom = ℕ
 Asked statistics = ProducerStats
 
 abbrev pub ask : (k : Query) → Queue → Asked k
@@ -71,6 +73,7 @@ ask batch_deadline q = next_batch_deadline q
 ask (batch_elapsed now) q = batch_deadline_elapsed now q
 ask (can_add size num_messages) q = may_add size num_messages q
 ask waiting_count q = outbound_len q
+ask headroom q = metadata_reservation q
 ask statistics q = stats q
 
 -- what a call gives that is not refused

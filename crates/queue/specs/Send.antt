@@ -16,6 +16,7 @@ use Rattle.types.specs.declared.frame.FrameKind.{FrameKind}
 use Rattle.types.specs.declared.frame.FrameKind.TheVariants as kind
 use Rattle.types.specs.declared.message.Part.{Part}
 use Rattle.types.specs.declared.message.OutgoingMessage.{OutgoingMessage}
+use Rattle.types.specs.declared.settings.Limits.{Limits}
 use Rattle.types.specs.declared.settings.ProducerSettings.{ProducerSettings}
 use Rattle.types.specs.declared.way.Way.{Way}
 use Rattle.types.specs.declared.way.Way.TheVariants.{TooLarge, Join, Single, Chunked}
@@ -39,9 +40,14 @@ pub record Sending : Type 0 where
 abbrev pub large : ProducerSettings → OutgoingMessage → Bool
 large t m = ltb t.limits.max_message_size m.payload.len
 
--- the payload size of a chunk (`emit_chunked`): the limit less 1,024 if the limit is over 4,096, else the limit
-abbrev pub chunk_size : ℕ → ℕ
-chunk_size limit = pick (ltb 4096 limit) (limit - 1024) limit
+-- the payload size of a chunk (`emit_chunked`; document 02, K6): the limit less the headroom if the limit exceeds four times the
+-- headroom, else the limit
+abbrev pub chunk_size : ℕ → ℕ → ℕ
+chunk_size headroom limit = pick (ltb (4 * headroom) limit) (limit - headroom) limit
+
+-- as they are set at the send
+abbrev pub chunk_size_of : Limits → ℕ
+chunk_size_of l = chunk_size l.metadata_reservation l.max_message_size
 
 -- `compute_total_chunks`: length divided by that size, rounded up, at least 1; 1 when the size is 0; it stops at 2^31 - 1
 abbrev pub total_chunks : ℕ → ℕ → ℕ
@@ -70,7 +76,7 @@ module _ (t : ProducerSettings) (m : OutgoingMessage) where
       pick (large t m && not t.switches.chunking_enabled) (TooLarge before)
       (pick (may_join t b m) (Join before (is_full t (add_sat b.len 1) (add_sat b.current_size_bytes m.payload.len)))
       (pick (large t m)
-      (Chunked before (chunk_size t.limits.max_message_size) (total_chunks m.payload.len (chunk_size t.limits.max_message_size)))
+      (Chunked before (chunk_size_of t.limits) (total_chunks m.payload.len (chunk_size_of t.limits)))
       (Single before)))
 
   abbrev pub way_of : BatchContainer → Way

@@ -1,21 +1,22 @@
 -- Document 01, 'Who can cause a refusal', setup; and the calls that set the Rust's public settings and close the producer.
 use Rattle.std.specs.Prelude.{ℕ, ◌-◌, Bool, true, List, ◌++◌, length, replicate, leb}
 use Rattle.laws.specs.Choice.{pick}
-use Rattle.types.specs.Bounds.{longest_name, largest_limit, longest_batch}
+use Rattle.types.specs.Bounds.{longest_name, largest_limit, longest_batch, largest_headroom}
 use Rattle.types.specs.declared.frame.ProducerName.{ProducerName}
 use Rattle.types.specs.declared.settings.Limits.{Limits}
 use Rattle.types.specs.declared.settings.Switches.{Switches}
 use Rattle.types.specs.declared.settings.Delays.{Delays}
 use Rattle.types.specs.declared.settings.ProducerSettings.{ProducerSettings}
 use Rattle.types.specs.declared.settings.Setting.{Setting}
-use Rattle.types.specs.declared.settings.Setting.TheVariants.{MaxMessageSize, MaxBatchSizeBytes, MaxMessagesInBatch, BatchingEnabled, ChunkingEnabled, SendTimeout, BatchingMaxPublishDelay, BrokerReady}
+use Rattle.types.specs.declared.settings.Setting.TheVariants.{MaxMessageSize, MaxBatchSizeBytes, MaxMessagesInBatch, MetadataReservation, BatchingEnabled, ChunkingEnabled, SendTimeout, BatchingMaxPublishDelay, BrokerReady}
 use Rattle.queue.specs.Queue.{Queue, Outcome, done, refuse, with_settings}
 
--- 8: message limit or batch bytes over 16,777,216, batch count over 128
+-- 8: message limit or batch bytes over 16,777,216, batch count over 128; headroom over 65,536 (document 02, K6)
 abbrev pub allowed : Setting → Bool
 allowed (MaxMessageSize n) = leb n largest_limit
 allowed (MaxBatchSizeBytes n) = leb n largest_limit
 allowed (MaxMessagesInBatch n) = leb n longest_batch
+allowed (MetadataReservation n) = leb n largest_headroom
 allowed (BatchingEnabled b) = true
 allowed (ChunkingEnabled b) = true
 allowed (SendTimeout d) = true
@@ -31,8 +32,9 @@ with_switches w t = record { name = t.name; limits = t.limits; switches = w; del
 abbrev pub with_delays : Delays → ProducerSettings → ProducerSettings
 with_delays d t = record { name = t.name; limits = t.limits; switches = t.switches; delays = d }
 
-abbrev pub limits_of : ℕ → ℕ → ℕ → Limits
-limits_of size bytes count = record { max_message_size = size; max_batch_size_bytes = bytes; max_messages_in_batch = count }
+abbrev pub limits_of : ℕ → ℕ → ℕ → ℕ → Limits
+limits_of size bytes count headroom =
+    record { max_message_size = size; max_batch_size_bytes = bytes; max_messages_in_batch = count; metadata_reservation = headroom }
 
 abbrev pub switches_of : Bool → Bool → Bool → Bool → Switches
 switches_of batching chunking ready closed =
@@ -41,11 +43,13 @@ switches_of batching chunking ready closed =
 -- the settings with one of them changed
 abbrev pub changed : Setting → ProducerSettings → ProducerSettings
 changed (MaxMessageSize n) t =
-    with_limits (limits_of n t.limits.max_batch_size_bytes t.limits.max_messages_in_batch) t
+    let l = t.limits in with_limits (limits_of n l.max_batch_size_bytes l.max_messages_in_batch l.metadata_reservation) t
 changed (MaxBatchSizeBytes n) t =
-    with_limits (limits_of t.limits.max_message_size n t.limits.max_messages_in_batch) t
+    let l = t.limits in with_limits (limits_of l.max_message_size n l.max_messages_in_batch l.metadata_reservation) t
 changed (MaxMessagesInBatch n) t =
-    with_limits (limits_of t.limits.max_message_size t.limits.max_batch_size_bytes n) t
+    let l = t.limits in with_limits (limits_of l.max_message_size l.max_batch_size_bytes n l.metadata_reservation) t
+changed (MetadataReservation n) t =
+    let l = t.limits in with_limits (limits_of l.max_message_size l.max_batch_size_bytes l.max_messages_in_batch n) t
 changed (BatchingEnabled b) t =
     let w = t.switches in with_switches (switches_of b w.chunking_enabled w.broker_ready w.closed) t
 changed (ChunkingEnabled b) t =

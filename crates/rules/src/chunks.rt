@@ -1,7 +1,9 @@
-// How a message over the limit is cut (document 01, 'sends').
+// How a message over the limit is cut (document 01, 'sends'; document 02, K6).
 ghost use Rattle.std.specs.Prelude.{◌≡◌, ◌*◌, min};
-ghost use Rattle.queue.specs.Send.{chunk_size, total_chunks};
+ghost use Rattle.queue.specs.Send.{chunk_size_of, total_chunks};
 ghost use Rattle.rules.specs.Chunks.{cut_of};
+
+use types::settings::Limits;
 
 // Chunks of this size, so many.
 #[derive(Clone, Copy)]
@@ -11,9 +13,6 @@ pub struct Cut {
 }
 
 impl Cut {
-    // What the command and metadata of a chunk may take of the limit.
-    pub const METADATA_RESERVATION: usize = 1024;
-
     // The most chunks that a command can bear.
     pub const MAX_CHUNKS: usize = 0x7fff_ffff;
 
@@ -25,14 +24,15 @@ impl Cut {
     }
 }
 
-// The payload size of a chunk: the limit less the reservation, where the limit is over four times that.
-pub fn chunk_size(max_message_size: usize) -> usize
-    ensures { result ≡ chunk_size max_message_size }
+// The payload size of a chunk: the limit less the reservation, where the limit is over four times that. No limit is over a product
+// that a usize cannot hold.
+pub fn chunk_size(l: Limits) -> usize
+    ensures { result ≡ chunk_size_of l }
 {
-    if Cut::METADATA_RESERVATION * 4 < max_message_size {
-        max_message_size - Cut::METADATA_RESERVATION
+    if l.metadata_reservation.saturating_mul(4) < l.max_message_size {
+        l.max_message_size - l.metadata_reservation
     } else {
-        max_message_size
+        l.max_message_size
     }
 }
 
@@ -51,10 +51,10 @@ pub fn compute_total_chunks(payload_len: usize, max_chunk_size: usize) -> u32
 }
 
 // How a payload over the limit is cut. A size that 32 bits cannot hold is none that the bound of 3 allows.
-pub fn cut_of(payload_len: usize, max_message_size: usize) -> Cut
-    ensures { result ≡ cut_of payload_len max_message_size }
+pub fn cut_of(payload_len: usize, l: Limits) -> Cut
+    ensures { result ≡ cut_of payload_len l }
 {
-    let size = chunk_size(max_message_size).min(u32::MAX as usize);
+    let size = chunk_size(l).min(u32::MAX as usize);
     Cut {
         max_chunk_size: size as u32,
         total_chunks: compute_total_chunks(payload_len, size),

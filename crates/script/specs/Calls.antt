@@ -1,7 +1,7 @@
 -- The codes of the calls (docs/SCRIPT.md, 'The script').
 use Rattle.std.specs.Prelude.{◌≡◌, ℕ, Result, MatchResult}
 use Rattle.script.specs.declared.operation.Call.{Call}
-use Rattle.script.specs.declared.operation.Call.TheVariants.{QueueSendReserved, QueueSend, FlushBatch, NextOutboundFrame, ApplyReceipt, ApplySendError, DrainTimedOutSends, DrainPendingSends, SnapshotPendingSends, ReplaySnapshots, ReplayLastSnapshot, ReplayPendingOutbound, SetInitialSequenceId, SetName, SetMaxMessageSize, SetMaxBatchSizeBytes, SetMaxMessagesInBatch, SetBatchingEnabled, SetChunkingEnabled, SetSendTimeout, SetBatchingMaxPublishDelay, SetBrokerReady, Close, NextSendDeadline, NextBatchDeadline, BatchDeadlineElapsed, CanAddToBatch, OutboundLen, Stats, Dump}
+use Rattle.script.specs.declared.operation.Call.TheVariants.{QueueSendReserved, QueueSend, FlushBatch, NextOutboundFrame, ApplyReceipt, ApplySendError, DrainTimedOutSends, DrainPendingSends, SnapshotPendingSends, ReplaySnapshots, ReplayLastSnapshot, ReplayPendingOutbound, SetInitialSequenceId, SetName, SetMaxMessageSize, SetMaxBatchSizeBytes, SetMaxMessagesInBatch, SetBatchingEnabled, SetChunkingEnabled, SetSendTimeout, SetBatchingMaxPublishDelay, SetBrokerReady, Close, SetMetadataReservation, NextSendDeadline, NextBatchDeadline, BatchDeadlineElapsed, CanAddToBatch, OutboundLen, Stats, Dump, MetadataReservation}
 use Rattle.script.specs.declared.operation.UnknownCode.{UnknownCode}
 
 -- the byte that stands for a call
@@ -29,6 +29,7 @@ code_of SetSendTimeout = 0x16
 code_of SetBatchingMaxPublishDelay = 0x17
 code_of SetBrokerReady = 0x18
 code_of Close = 0x19
+code_of SetMetadataReservation = 0x1A
 code_of NextSendDeadline = 0x20
 code_of NextBatchDeadline = 0x21
 code_of BatchDeadlineElapsed = 0x22
@@ -36,6 +37,7 @@ code_of CanAddToBatch = 0x23
 code_of OutboundLen = 0x24
 code_of Stats = 0x25
 code_of Dump = 0x26
+code_of MetadataReservation = 0x27
 
 -- the call with this code, or an error with it
 abbrev pub Decodes : ℕ → Result Call UnknownCode → Type 0

@@ -36,6 +36,7 @@ pub enum Call {
     SetBatchingMaxPublishDelay = 0x17,
     SetBrokerReady = 0x18,
     Close = 0x19,
+    SetMetadataReservation = 0x1A,
     NextSendDeadline = 0x20,
     NextBatchDeadline = 0x21,
     BatchDeadlineElapsed = 0x22,
@@ -43,6 +44,7 @@ pub enum Call {
     OutboundLen = 0x24,
     Stats = 0x25,
     Dump = 0x26,
+    MetadataReservation = 0x27,
 }
 
 // A code of no operation.
@@ -79,6 +81,7 @@ impl TryFrom<u8> for Call {
             0x17 => Ok(Call::SetBatchingMaxPublishDelay),
             0x18 => Ok(Call::SetBrokerReady),
             0x19 => Ok(Call::Close),
+            0x1A => Ok(Call::SetMetadataReservation),
             0x20 => Ok(Call::NextSendDeadline),
             0x21 => Ok(Call::NextBatchDeadline),
             0x22 => Ok(Call::BatchDeadlineElapsed),
@@ -86,6 +89,7 @@ impl TryFrom<u8> for Call {
             0x24 => Ok(Call::OutboundLen),
             0x25 => Ok(Call::Stats),
             0x26 => Ok(Call::Dump),
+            0x27 => Ok(Call::MetadataReservation),
             _ => Err(UnknownCode(code)),
         }
     }
@@ -117,6 +121,7 @@ fn fixed_size(call: Call) -> usize
         | Call::SetMaxMessageSize
         | Call::SetMaxBatchSizeBytes
         | Call::SetMaxMessagesInBatch
+        | Call::SetMetadataReservation
         | Call::BatchDeadlineElapsed => 9,
         Call::SetSendTimeout | Call::SetBatchingMaxPublishDelay => 10,
         Call::SetBatchingEnabled | Call::SetChunkingEnabled | Call::SetBrokerReady => 2,
@@ -219,7 +224,10 @@ fn room_of(place: Place, call: Call) -> u64 {
     let arguments = place.behind(1);
     match call {
         Call::QueueSendReserved | Call::QueueSend => 18,
-        Call::FlushBatch | Call::ReplayPendingOutbound | Call::OutboundLen => 10,
+        Call::FlushBatch
+        | Call::ReplayPendingOutbound
+        | Call::OutboundLen
+        | Call::MetadataReservation => 10,
         Call::NextOutboundFrame => arguments.get::<u64>().saturating_add(frame_room()),
         Call::ApplyReceipt => 323,
         Call::ApplySendError => 299,

@@ -1,7 +1,7 @@
 // What can be asked of a producer.
 ghost use Rattle.std.specs.Prelude.{[]};
 ghost use Rattle.queue.specs.Queue.{done};
-ghost use Rattle.queue.specs.Run.{query, send_deadline, batch_deadline, batch_elapsed, can_add, waiting_count, statistics};
+ghost use Rattle.queue.specs.Run.{query, send_deadline, batch_deadline, batch_elapsed, can_add, waiting_count, headroom, statistics};
 ghost use Rattle.producer.specs.Meets.{Meets};
 ghost use Rattle.rows.specs.Optional.{decode_u64, decode_mark};
 
@@ -49,6 +49,13 @@ pub extern "C" fn tevrulig_outbound_len(producer: &ProducerState) -> usize
     ensures { Meets [] (query waiting_count) producer.now producer.now (done result) }
 {
     producer.waiting_count()
+}
+
+#[unsafe(no_mangle)]
+pub extern "C" fn tevrulig_metadata_reservation(producer: &ProducerState) -> usize
+    ensures { Meets [] (query headroom) producer.now producer.now (done result) }
+{
+    producer.headroom()
 }
 
 #[unsafe(no_mangle)]

@@ -4,7 +4,7 @@ ghost use Rattle.queue.specs.Queue.{done, new_queue};
 ghost use Rattle.queue.specs.Run.{set, set_name, close, initial_id};
 ghost use Rattle.producer.specs.Meets.{Meets};
 ghost use Rattle.producer.specs.View.{view};
-ghost use Rattle.types.specs.declared.settings.Setting.TheVariants.{MaxMessageSize, MaxBatchSizeBytes, MaxMessagesInBatch, BatchingEnabled, ChunkingEnabled, SendTimeout, BatchingMaxPublishDelay, BrokerReady};
+ghost use Rattle.types.specs.declared.settings.Setting.TheVariants.{MaxMessageSize, MaxBatchSizeBytes, MaxMessagesInBatch, MetadataReservation, BatchingEnabled, ChunkingEnabled, SendTimeout, BatchingMaxPublishDelay, BrokerReady};
 ghost use Rattle.rows.specs.Optional.{decode_u64, decode_mark};
 ghost use Rattle.tevrulig.specs.Answers.{status_answer, status_of, Left};
 
@@ -73,6 +73,17 @@ pub extern "C" fn tevrulig_set_max_messages_in_batch(
     ensures kept { Left result producer.old producer.new }
 {
     set(producer, Setting::MaxMessagesInBatch(limit))
+}
+
+#[unsafe(no_mangle)]
+pub extern "C" fn tevrulig_set_metadata_reservation(
+    producer: &mut ProducerState,
+    bytes: usize,
+) -> u32
+    ensures meets { Meets [] (set (MetadataReservation bytes)) producer.old producer.new (status_answer result) }
+    ensures kept { Left result producer.old producer.new }
+{
+    set(producer, Setting::MetadataReservation(bytes))
 }
 
 #[unsafe(no_mangle)]

@@ -1,10 +1,11 @@
 // A tour: a rate table goes out in chunks between two batches and a single message; its frames are taken, receipts come back,
-// and the frames are read back into the messages. Then the line breaks twice in a row.
+// and the frames are read back into the messages. Then the line breaks twice in a row, and a carrier wants smaller chunks.
 #![tactic(auto)]
 
 mod compare;
 mod fields;
 mod frame;
+mod headroom;
 mod list;
 mod message;
 mod read;

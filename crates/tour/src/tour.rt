@@ -1,4 +1,5 @@
 // What the steps of the tour share, and their order.
+use crate::headroom::HEADROOM;
 use crate::story;
 use crate::take::Taken;
 use crate::words::{Count, entries, frames};
@@ -52,6 +53,8 @@ impl<'a, P: Print> Tour<'a, P> {
         println!(self.out; "\nMessages read back from the frames")?;
         self.compare()?;
         println!(self.out; "\nTwo reconnects in a row")?;
-        self.reconnect_twice()
+        self.reconnect_twice()?;
+        println!(self.out; "\nA headroom of {HEADROOM} bytes")?;
+        self.make_headroom()
     }
 }

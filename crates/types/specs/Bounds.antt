@@ -19,3 +19,7 @@ largest_limit = 16777216
 -- 8: the messages of a batch
 abbrev pub longest_batch : ℕ
 longest_batch = 128
+
+-- 8: the headroom (document 02, K6)
+abbrev pub largest_headroom : ℕ
+largest_headroom = 65536

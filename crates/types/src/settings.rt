@@ -8,6 +8,8 @@ pub struct Limits {
     pub max_message_size: usize,
     pub max_batch_size_bytes: usize,
     pub max_messages_in_batch: usize,
+    // What the command and metadata of a chunk may take of the message limit.
+    pub metadata_reservation: usize,
 }
 
 // The largest values that a setting takes (refusal 8), and those of a new producer: the Rust's, but for the batch count, whose
@@ -19,11 +21,15 @@ impl Limits {
 
     pub const MAX_MESSAGES_IN_BATCH: usize = 128;
 
+    pub const MAX_METADATA_RESERVATION: usize = 65_536;
+
     pub const DEFAULT_MESSAGE_SIZE: usize = 5_242_880;
 
     pub const DEFAULT_BATCH_SIZE_BYTES: usize = 131_072;
 
     pub const DEFAULT_MESSAGES_IN_BATCH: usize = Limits::MAX_MESSAGES_IN_BATCH;
+
+    pub const DEFAULT_METADATA_RESERVATION: usize = 1_024;
 }
 
 #[derive(Clone, Copy, PartialEq, Eq)]
@@ -56,6 +62,7 @@ pub enum Setting {
     MaxMessageSize(usize),
     MaxBatchSizeBytes(usize),
     MaxMessagesInBatch(usize),
+    MetadataReservation(usize),
     BatchingEnabled(bool),
     ChunkingEnabled(bool),
     SendTimeout(Option<u64>),

@@ -17,6 +17,7 @@ pub fn new_settings() -> ProducerSettings
             max_message_size: Limits::DEFAULT_MESSAGE_SIZE,
             max_batch_size_bytes: Limits::DEFAULT_BATCH_SIZE_BYTES,
             max_messages_in_batch: Limits::DEFAULT_MESSAGES_IN_BATCH,
+            metadata_reservation: Limits::DEFAULT_METADATA_RESERVATION,
         },
         switches: Switches {
             batching_enabled: false,
@@ -39,6 +40,7 @@ pub fn allows(s: Setting) -> bool
         Setting::MaxMessageSize(n) => n <= Limits::MAX_MESSAGE_SIZE,
         Setting::MaxBatchSizeBytes(n) => n <= Limits::MAX_BATCH_SIZE_BYTES,
         Setting::MaxMessagesInBatch(n) => n <= Limits::MAX_MESSAGES_IN_BATCH,
+        Setting::MetadataReservation(n) => n <= Limits::MAX_METADATA_RESERVATION,
         Setting::BatchingEnabled(_)
         | Setting::ChunkingEnabled(_)
         | Setting::SendTimeout(_)
@@ -54,6 +56,7 @@ pub fn with_setting(mut t: ProducerSettings, s: Setting) -> ProducerSettings
         Setting::MaxMessageSize(n) => t.limits.max_message_size = n,
         Setting::MaxBatchSizeBytes(n) => t.limits.max_batch_size_bytes = n,
         Setting::MaxMessagesInBatch(n) => t.limits.max_messages_in_batch = n,
+        Setting::MetadataReservation(n) => t.limits.metadata_reservation = n,
         Setting::BatchingEnabled(b) => t.switches.batching_enabled = b,
         Setting::ChunkingEnabled(b) => t.switches.chunking_enabled = b,
         Setting::SendTimeout(d) => t.delays.send_timeout = d,

@@ -71,6 +71,16 @@ impl Builder {
             .op(Operation::SetMaxMessageSize(limit))
     }
 
+    /// A message in chunks behind so many others, sent twice, and put in front again before and after two takes.
+    pub fn sent_in_chunks(&mut self, length: u64, behind: usize) -> &mut Self {
+        self.times(behind, &send(message(1)))
+            .send(message(length))
+            .op(plain_send(message(length)))
+            .op(Operation::ReplayPendingOutbound)
+            .times(2, &take(5))
+            .op(Operation::ReplayPendingOutbound)
+    }
+
     pub fn length(&self) -> usize {
         self.0.bytes.len()
     }

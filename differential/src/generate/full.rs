@@ -87,14 +87,7 @@ fn c4(each: &mut dyn FnMut(Case)) {
     for length in [5_115, 5_116, 5_120, 5_121] {
         for before in [0, 1] {
             let mut builder = Builder::new(&text(5_121));
-            builder
-                .chunking(5)
-                .times(before, &send(message(1)))
-                .send(message(length))
-                .op(plain_send(message(length)))
-                .op(Operation::ReplayPendingOutbound)
-                .times(2, &take(5))
-                .op(Operation::ReplayPendingOutbound);
+            builder.chunking(5).sent_in_chunks(length, before);
             each(builder.op(Operation::Stats).dump().end());
         }
     }

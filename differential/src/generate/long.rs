@@ -153,6 +153,9 @@ impl Walk<'_> {
     }
 
     fn setting(&mut self) -> Operation {
+        if self.sets_headrooms() && self.random.one_in(30) {
+            return Operation::SetMetadataReservation(self.random.pick(&wide::HEADROOMS));
+        }
         match self.random.below(14) {
             0 => {
                 let ends = [0, 1, 1 << 63, u64::MAX];
@@ -182,6 +185,9 @@ impl Walk<'_> {
     }
 
     fn question(&mut self) -> Operation {
+        if self.sets_headrooms() && self.random.one_in(15) {
+            return Operation::MetadataReservation;
+        }
         match self.random.below(14) {
             0 | 1 => Operation::NextSendDeadline,
             2 | 3 => Operation::NextBatchDeadline,
@@ -194,6 +200,11 @@ impl Walk<'_> {
             11 | 12 => Operation::Stats,
             _ => Operation::Dump,
         }
+    }
+
+    /// Of the scripts that no class has, and that are not recorded.
+    fn sets_headrooms(&self) -> bool {
+        matches!(self.mood, Mood::Flowing | Mood::Wide)
     }
 
     fn send(&mut self) -> Operation {

@@ -7,6 +7,7 @@ mod damaged;
 mod edges;
 mod exhaustive;
 mod full;
+mod headroom;
 mod limits;
 mod long;
 pub mod random;
@@ -34,6 +35,7 @@ pub struct Amounts {
     pub damaged_step: usize,
     /// Scripts that are written once with a reconnect and once with two.
     pub pairs: usize,
+    pub headroom_scripts: usize,
     /// What is too large to be recorded.
     pub large: bool,
 }
@@ -49,6 +51,7 @@ impl Amounts {
         damaged_scripts: 4_000,
         damaged_step: 1,
         pairs: 50,
+        headroom_scripts: 2_000,
         large: true,
     };
 
@@ -59,6 +62,7 @@ impl Amounts {
         long_scripts: 6_000,
         damaged_scripts: 20_000,
         pairs: 200,
+        headroom_scripts: 20_000,
         ..Self::MILLION
     };
 
@@ -72,6 +76,7 @@ impl Amounts {
         damaged_scripts: 300,
         damaged_step: 7,
         pairs: 0,
+        headroom_scripts: 60,
         large: false,
     };
 }
@@ -83,7 +88,7 @@ pub struct Class {
     pub cases: fn(&Amounts, u64, &mut dyn FnMut(Case)),
 }
 
-pub const CLASSES: [Class; 7] = [
+pub const CLASSES: [Class; 8] = [
     Class {
         name: "exhaustive",
         covers: exhaustive::COVERS,
@@ -134,6 +139,18 @@ pub const CLASSES: [Class; 7] = [
             });
         },
     },
+    // The last, so that what was recorded of the others before it stays where it is.
+    Class {
+        name: "headroom",
+        covers: headroom::COVERS,
+        cases: |amounts, seed, each| {
+            headroom::cases(each);
+            if amounts.large {
+                headroom::large_cases(each);
+            }
+            headroom_cases(amounts, seed, each);
+        },
+    },
 ];
 
 fn long_cases(amounts: &Amounts, seed: u64, each: &mut dyn FnMut(Case)) {
@@ -157,6 +174,13 @@ pub fn twice_pairs(amounts: &Amounts, seed: u64, each: &mut dyn FnMut(Pair)) {
     let mut random = Random::new(seed.rotate_left(16));
     for _ in 0..amounts.pairs {
         each(twice::random_pair(&mut random));
+    }
+}
+
+fn headroom_cases(amounts: &Amounts, seed: u64, each: &mut dyn FnMut(Case)) {
+    let mut random = Random::new(seed.rotate_left(48));
+    for _ in 0..amounts.headroom_scripts {
+        each(headroom::random_case(&mut random));
     }
 }
 

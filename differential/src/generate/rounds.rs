@@ -4,13 +4,14 @@ use super::build::Case;
 use super::long::{self, Mood};
 use super::random::Random;
 use super::twice::Pair;
-use super::{Amounts, damaged_cases, long_cases, twice_pairs};
+use super::{Amounts, damaged_cases, headroom_cases, long_cases, twice_pairs};
 
 /// The scripts that need no chance.
 pub const FIXED: Amounts = Amounts {
     long_scripts: 0,
     damaged_scripts: 0,
     pairs: 0,
+    headroom_scripts: 0,
     ..Amounts::MILLION
 };
 
@@ -19,6 +20,7 @@ const ROUND: Amounts = Amounts {
     long_scripts: 12,
     damaged_scripts: 24,
     pairs: 2,
+    headroom_scripts: 24,
     large: false,
     ..Amounts::MILLION
 };
@@ -46,6 +48,7 @@ pub fn cases(seed: u64, round: u64, each: &mut dyn FnMut(Case)) {
     let seed = seed_of(seed, round);
     long_cases(&ROUND, seed, each);
     damaged_cases(&ROUND, seed, each);
+    headroom_cases(&ROUND, seed, each);
     let mut random = Random::new(seed.rotate_left(32));
     for number in 0..FLOWING + WIDE {
         let mood = if number < FLOWING {

@@ -16,6 +16,10 @@ pub const WRONG_CHUNKS: u64 = 256;
 pub const SIZES: [u64; 12] = [
     0, 5, 6, 20, 130, 4_095, 4_096, 4_097, 5_119, 6_000, 16_777_216, 16_777_217,
 ];
+/// Mostly the one that the Rust judges.
+pub const HEADROOMS: [u64; 12] = [
+    0, 1, 5, 25, 1_023, 1_024, 1_024, 1_024, 1_024, 1_025, 65_536, 65_537,
+];
 /// A clock goes on from here for up to a script's length, and a sum with a delay stays below 2^63.
 pub const CLOCKS: [u64; 5] = [0, 1_000, 1 << 32, 1 << 61, (1 << 62) - 100_000];
 pub const DELAYS: [u64; 6] = [0, 1, 59, 1 << 31, 1 << 61, (1 << 62) - 1];

@@ -121,7 +121,10 @@ structs! {
         pending_queue_size: u64,
     }
     struct Limits = tevrulig_limits {
-        max_message_size: usize, max_batch_size_bytes: usize, max_messages_in_batch: usize,
+        max_message_size: usize,
+        max_batch_size_bytes: usize,
+        max_messages_in_batch: usize,
+        metadata_reservation: usize,
     }
     struct Switches = tevrulig_switches {
         batching_enabled: u8, chunking_enabled: u8, broker_ready: u8, closed: u8,
@@ -205,6 +208,7 @@ macro_rules! functions {
             fn tevrulig_set_max_message_size(producer: *mut Producer, limit: usize) -> u32;
             fn tevrulig_set_max_batch_size_bytes(producer: *mut Producer, limit: usize) -> u32;
             fn tevrulig_set_max_messages_in_batch(producer: *mut Producer, limit: usize) -> u32;
+            fn tevrulig_set_metadata_reservation(producer: *mut Producer, bytes: usize) -> u32;
             fn tevrulig_set_name(producer: *mut Producer, name: *const u8, len: usize) -> u32;
             fn tevrulig_set_batching_enabled(producer: *mut Producer, on: u8) -> u32;
             fn tevrulig_set_chunking_enabled(producer: *mut Producer, on: u8) -> u32;
@@ -299,6 +303,7 @@ macro_rules! functions {
                 num_messages: i32,
             ) -> u8;
             fn tevrulig_outbound_len(producer: *const Producer) -> usize;
+            fn tevrulig_metadata_reservation(producer: *const Producer) -> usize;
             fn tevrulig_stats(producer: *const Producer) -> Stats;
         }
     };

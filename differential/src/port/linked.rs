@@ -9,15 +9,15 @@ use magnetar_proto::types::MessageId;
 use super::calls::{
     tevrulig_apply_receipt, tevrulig_apply_send_error, tevrulig_batch_deadline_elapsed,
     tevrulig_can_add_to_batch, tevrulig_close, tevrulig_drain_pending_sends,
-    tevrulig_drain_timed_out_sends, tevrulig_flush_batch, tevrulig_new,
-    tevrulig_next_batch_deadline, tevrulig_next_outbound_frame, tevrulig_next_send_deadline,
-    tevrulig_outbound_len, tevrulig_queue_send, tevrulig_queue_send_reserved,
-    tevrulig_replay_pending_outbound, tevrulig_replay_snapshots, tevrulig_set_batching_enabled,
-    tevrulig_set_batching_max_publish_delay, tevrulig_set_broker_ready,
-    tevrulig_set_chunking_enabled, tevrulig_set_initial_sequence_id,
+    tevrulig_drain_timed_out_sends, tevrulig_flush_batch, tevrulig_metadata_reservation,
+    tevrulig_new, tevrulig_next_batch_deadline, tevrulig_next_outbound_frame,
+    tevrulig_next_send_deadline, tevrulig_outbound_len, tevrulig_queue_send,
+    tevrulig_queue_send_reserved, tevrulig_replay_pending_outbound, tevrulig_replay_snapshots,
+    tevrulig_set_batching_enabled, tevrulig_set_batching_max_publish_delay,
+    tevrulig_set_broker_ready, tevrulig_set_chunking_enabled, tevrulig_set_initial_sequence_id,
     tevrulig_set_max_batch_size_bytes, tevrulig_set_max_message_size,
-    tevrulig_set_max_messages_in_batch, tevrulig_set_name, tevrulig_set_send_timeout,
-    tevrulig_snapshot_pending_sends, tevrulig_stats,
+    tevrulig_set_max_messages_in_batch, tevrulig_set_metadata_reservation, tevrulig_set_name,
+    tevrulig_set_send_timeout, tevrulig_snapshot_pending_sends, tevrulig_stats,
 };
 use super::given::{given_message, optional_i32, optional_u64, zeros};
 use super::layout as c;
@@ -185,6 +185,9 @@ impl crate::run::Producer for Linked<'_> {
             Operation::SetMaxMessagesInBatch(limit) => done(unsafe {
                 tevrulig_set_max_messages_in_batch(self.producer(), *limit as usize)
             }),
+            Operation::SetMetadataReservation(bytes) => {
+                done(unsafe { tevrulig_set_metadata_reservation(self.producer(), *bytes as usize) })
+            }
             Operation::SetBatchingEnabled(on) => {
                 done(unsafe { tevrulig_set_batching_enabled(self.producer(), u8::from(*on)) })
             }
@@ -241,6 +244,9 @@ impl crate::run::Producer for Linked<'_> {
                 ])
             }
             Operation::Dump => Answer::Dump(Box::new(self.dump()?)),
+            Operation::MetadataReservation => {
+                Answer::Count(unsafe { tevrulig_metadata_reservation(self.producer()) } as u64)
+            }
         })
     }
 }

@@ -102,7 +102,7 @@ impl States {
         let random = &mut self.random;
         let (a, b) = (random.next(), random.next());
         let uuid: [u8; 16] = random.bytes();
-        let which = random.below(30);
+        let which = random.below(31);
         // SAFETY: the whole of the producer.
         let bytes = unsafe { slice::from_raw_parts(producer.cast::<u8>(), self.before.len()) };
         self.before.copy_from_slice(bytes);
@@ -199,7 +199,8 @@ impl States {
                     calls::tevrulig_new(producer, a);
                     0
                 }
-                28 => {
+                28 => calls::tevrulig_set_metadata_reservation(producer, a as usize),
+                29 => {
                     let _ = calls::tevrulig_next_send_deadline(producer);
                     let _ = calls::tevrulig_next_batch_deadline(producer);
                     0
@@ -208,6 +209,7 @@ impl States {
                     let _ = calls::tevrulig_batch_deadline_elapsed(producer, a);
                     let _ = calls::tevrulig_can_add_to_batch(producer, a as usize, b as i32);
                     let _ = calls::tevrulig_outbound_len(producer);
+                    let _ = calls::tevrulig_metadata_reservation(producer);
                     let _ = calls::tevrulig_stats(producer);
                     0
                 }
@@ -222,7 +224,7 @@ impl States {
         let after = unsafe { slice::from_raw_parts(producer.cast::<u8>(), self.before.len()) };
         // 6 alone may first flush an earlier batch.
         let keeps = status != 0 && status != 6;
-        if (keeps || which >= 28) && after != self.before {
+        if (keeps || which >= 29) && after != self.before {
             return Err(format!(
                 "operation {which}, refused by {status}, changed the state"
             ));
@@ -284,6 +286,10 @@ fn settle(random: &mut Random, core: &mut c::Core) {
     }
     if random.one_in(2) {
         core.settings.limits.max_message_size = random.below(3000) as usize;
+    }
+    if random.one_in(2) {
+        let headrooms = [0, 1, 100, 700, 1024, u64::MAX / 4, u64::MAX / 4 + 1];
+        core.settings.limits.metadata_reservation = random.pick(&headrooms) as usize;
     }
 }
 
