@@ -171,23 +171,26 @@ pub fn twice_pairs(amounts: &Amounts, seed: u64, each: &mut dyn FnMut(Pair)) {
     if amounts.large {
         twice::pairs(each);
     }
-    let mut random = Random::new(seed.rotate_left(16));
-    for _ in 0..amounts.pairs {
-        each(twice::random_pair(&mut random));
-    }
+    let seed = seed.rotate_left(16);
+    several(amounts.pairs, seed, each, twice::random_pair);
 }
 
 fn headroom_cases(amounts: &Amounts, seed: u64, each: &mut dyn FnMut(Case)) {
-    let mut random = Random::new(seed.rotate_left(48));
-    for _ in 0..amounts.headroom_scripts {
-        each(headroom::random_case(&mut random));
-    }
+    let seed = seed.rotate_left(48);
+    several(amounts.headroom_scripts, seed, each, headroom::random_case);
 }
 
 fn damaged_cases(amounts: &Amounts, seed: u64, each: &mut dyn FnMut(Case)) {
-    let mut random = Random::new(!seed);
-    for _ in 0..amounts.damaged_scripts {
+    several(amounts.damaged_scripts, !seed, each, |random| {
         let length = 1 + random.below(8) as usize;
-        each(damaged::random_case(&mut random, length));
+        damaged::random_case(random, length)
+    });
+}
+
+/// So many, one after the other from one seed.
+fn several<T>(count: usize, seed: u64, each: &mut dyn FnMut(T), make: impl Fn(&mut Random) -> T) {
+    let mut random = Random::new(seed);
+    for _ in 0..count {
+        each(make(&mut random));
     }
 }
