@@ -7,7 +7,7 @@ use Prim.Native.Nat.{ℕ, zero, suc, ◌+◌, ◌≤◌, ◌<◌}
 use native.Mathlib.Numerals.{add-one}
 use native.Mathlib.Omega.{arith}
 use lib.ListN.{length, take, drop, get_or, set, drop_of_length-le}
-use lib.Seq.{drop-cons, take-suc, take-suc-set, take-set-le, drop-set-lt, get_or-set_same, append_snoc, lt-length-set}
+use lib.Seq.{drop-cons, take-suc, take-suc-set, take-set-le, drop-set-lt, get_or-set_same, append_snoc, take_all, lt-length-set}
 use Rattle.laws.specs.Choice.{pick}
 use Rattle.laws.specs.Lists.{without, first_at}
 
@@ -44,6 +44,20 @@ module _ {A : Type 0} where
 
   pub without_last : (l : List A) (i : ℕ) → length l ≤ i + 1 → without l i ≡ take i l
   without_last l i h = ap (λ (r : List A). take i l ++ r) (drop_of_length-le l h) ∙ append-nil (take i l)
+
+  -- each element is changed
+  abbrev pub rest : (A → A) → List A → ℕ → List A
+  rest f l i = take i l ++ map f (drop i l)
+
+  pub rest_step : (f : A → A) (l : List A) (i : ℕ) (d : A) → i < length l → rest f (set l i (f (get_or l i d))) (i + 1) ≡ rest f l i
+  rest_step f l i d h =
+      let x : A = f (get_or l i d) in
+      stored l i (i + 1) x (map f) h (omega arith)
+      ∙ ap (λ (k : ℕ). take i l ++ x ∷ map f (drop k l)) (add-one i)
+      ∙ ap (λ (r : List A). take i l ++ map f r) (sym (drop-cons l i d h))
+
+  pub rest_end : (f : A → A) (l : List A) (i : ℕ) → length l ≤ i → rest f l i ≡ l
+  rest_end f l i h = ap (λ (r : List A). take i l ++ map f r) (drop_of_length-le l h) ∙ append-nil (take i l) ∙ take_all i l h
 
   -- the first element that passes
   next_of : (p : A → Bool) (l : List A) (i : ℕ) (d : A) (b : Bool) → i < length l → p (get_or l i d) ≡ b
