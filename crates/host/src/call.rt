@@ -30,14 +30,14 @@ pub(crate) fn carry_out<D: Drive>(d: &mut D, last: &mut Table, task: Task, out: 
             out.put((task.call, answer));
         }
         Call::NextOutboundFrame => call_take(d, task, out),
-        Call::ApplyReceipt => {
-            let answer = d.apply_receipt(task.arguments.get());
-            out.put((task.call, answer.map(|(op, id)| (id, op))));
-        }
-        Call::ApplySendError => {
-            let answer = d.apply_send_error(task.arguments.get());
-            out.put((task.call, answer.map(|(op, error)| (error, op))));
-        }
+        Call::ApplyReceipt => match d.apply_receipt(task.arguments.get()) {
+            Ok((op, id)) => put_done(out, task.call, (id, op)),
+            Err(e) => out.put((task.call, e)),
+        },
+        Call::ApplySendError => match d.apply_send_error(task.arguments.get()) {
+            Ok((op, error)) => put_done(out, task.call, (error, op)),
+            Err(e) => out.put((task.call, e)),
+        },
         Call::DrainTimedOutSends | Call::DrainPendingSends => call_drain(d, task, out),
         Call::SnapshotPendingSends => call_snapshot(d, last, task, out),
         Call::ReplaySnapshots | Call::ReplayLastSnapshot => call_replay(d, last, task, out),

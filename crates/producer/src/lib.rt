@@ -3,6 +3,7 @@
 
 pub mod answer;
 pub mod apply;
+mod blank;
 pub mod drain;
 pub mod pending;
 pub mod push;

@@ -4,6 +4,7 @@ ghost use Rattle.queue.specs.Queue.{new_queue};
 ghost use Rattle.producer.specs.State.{decode_core};
 ghost use Rattle.producer.specs.View.{view};
 
+use crate::blank::{FRAME, PUBLISH, SINGLE};
 use plans::state::Core;
 use rows::batch::BatchRow;
 use rows::entry::PublishRow;
@@ -11,8 +12,6 @@ use rows::frame::FrameRow;
 use rows::message::SingleRow;
 use rows::rings::RingsRow;
 use rows::settings::SettingsRow;
-use rules::batch::single_of;
-use rules::blank::{no_frame, no_message, no_publish};
 use rules::rings::Rings;
 use types::stats::{Counters, SequenceIds};
 use types::types::{ProducerHandle, SequenceId};
@@ -85,9 +84,9 @@ impl ProducerState {
     {
         ProducerState {
             core: CoreRow::encode(Core::new(handle)),
-            outbound: [FrameRow::encode(no_frame()); Rings::OUTBOUND],
-            held: [SingleRow::encode(single_of(no_message())); Rings::HELD],
-            pending: [PublishRow::encode(no_publish()); Rings::PENDING],
+            outbound: [FRAME; Rings::OUTBOUND],
+            held: [SINGLE; Rings::HELD],
+            pending: [PUBLISH; Rings::PENDING],
             pending_ids: [SequenceId(0); Rings::PENDING],
             pending_marks: [0; Rings::PENDING],
         }
