@@ -280,7 +280,8 @@ pub struct Head<'a> {
     pub operations: Place<'a>,
 }
 
-const STORE: usize = 18;
+// Where the bytes of the store begin.
+pub const STORE: usize = 18;
 
 // The head of a script: its mark, version, drive, handle and store. None of a malformed one.
 pub fn head_of(script: &[u8]) -> Option<Head<'_>> {
